@@ -1,0 +1,17 @@
+//! The entity data model: the seven kinds of a property's value, and entities within their limits.
+#![tactic(auto)]
+
+mod entities;
+mod texts;
+mod values;
+
+pub use entities::{EdmRefused, Entity};
+pub use texts::{BytesValue, TextValue};
+pub use values::{Property, Value};
+
+/// A refusal by want of memory.
+#[derive(Clone, Copy, Debug, PartialEq, Eq)]
+pub struct Memory;
+
+/// The last tick, 9999-12-31T23:59:59.9999999Z. A tick is 100 ns since 1601-01-01T00:00:00Z.
+pub const GREATEST: u64 = 2_650_467_743_999_999_999;

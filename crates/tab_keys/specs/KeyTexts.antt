@@ -1,0 +1,24 @@
+-- Which texts are keys.
+use Rattle.std.specs.Prelude.{◌≡◌, ℕ, List, length, flat_map, chars, IsUtf8, Bool, ◌&&◌, ◌||◌, ◌==◌, nat_lt, nat_le, if◌then◌else◌, Option, Some, None}
+use Rattle.std.specs.List.{list_any}
+use Rattle.std.specs.Char.Escape.{encode_utf16}
+use Rattle.tab_keys.specs.declared.key_texts.KeyRefused.{KeyRefused}
+use Rattle.tab_keys.specs.declared.key_texts.KeyRefused.TheVariants.{TooLong, BadCharacter}
+
+-- the UTF-16 code units of a text
+unfoldable pub units_of : List ℕ → List ℕ
+units_of text = flat_map encode_utf16 (chars text)
+
+-- `/`, `\`, `#`, `?`, and the control characters
+abbrev pub is_bad_character : ℕ → Bool
+is_bad_character c = c == 47 || c == 92 || c == 35 || c == 63 || nat_lt c 32 || (nat_le 127 c && nat_le c 159)
+
+-- why a text is no key, want of memory aside
+unfoldable pub key_refusal : List ℕ → Option KeyRefused
+key_refusal text =
+    if nat_lt 1024 (length (units_of text)) then Some TooLong else (if list_any is_bad_character (chars text) then Some BadCharacter else None)
+
+-- a text that is a key
+pub record IsKeyText (text : List ℕ) : Type 0 where
+  pub utf8 : IsUtf8 text
+  pub allowed : key_refusal text ≡ None

@@ -1,0 +1,4 @@
+pub mod KeyTexts
+pub mod TableNames
+pub mod Order
+pub mod Spans

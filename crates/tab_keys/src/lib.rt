@@ -1,0 +1,19 @@
+//! Keys of a table service: key texts, table names, keys in the order of their UTF-16 code units, the bounds
+//! that cut the space of keys, and spans between two bounds.
+#![tactic(auto)]
+
+mod bounds;
+mod key_texts;
+mod keys;
+mod spans;
+mod table_names;
+
+pub use bounds::Bound;
+pub use key_texts::{KeyRefused, KeyText};
+pub use keys::Key;
+pub use spans::Span;
+pub use table_names::{NameRefused, TableName};
+
+/// A refusal by want of memory.
+#[derive(Clone, Copy, Debug, PartialEq, Eq)]
+pub struct Memory;
