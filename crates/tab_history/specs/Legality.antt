@@ -1,0 +1,105 @@
+-- Which histories are those of one ordered map.
+use Rattle.std.specs.Prelude.{◌≡◌, ℕ, List, [], ◌∷◌, ◌==◌, find, AllPairs, IsTrue, Option, Some, None, option_and_then, Result, Ok, Err, ⊤}
+use Rattle.std.specs.Result.{result_unwrap_or}
+use Rattle.tab_keys.specs.Order.{bound_lt}
+use Rattle.tab_keys.specs.declared.bounds.Bound.{Bound}
+use Rattle.tab_keys.specs.declared.bounds.Bound.TheVariants.{At}
+use Rattle.tab_history.specs.Rows.{RowView}
+use Rattle.tab_history.specs.Groups.{ItemView}
+use Rattle.tab_history.specs.World.{World, table_of, raised, MayHaveTick}
+use Rattle.tab_history.specs.Changes.{group_outcome, group_keys}
+use Rattle.tab_history.specs.Pages.{page_of}
+use Rattle.tab_history.specs.declared.groups.OpRefused.{OpRefused}
+use Rattle.tab_history.specs.declared.entries.Entry.{Entry}
+use Rattle.tab_history.specs.declared.entries.Entry.TheVariants.{Bounds, Resolve, Page, Change, Denied}
+use Rattle.tab_history.specs.declared.entries.Denied.{Denied as Why}
+use Rattle.tab_history.specs.declared.entries.Denied.TheVariants.{Op, Memory}
+use Rattle.tab_history.specs.declared.entries.Doubt.{Doubt}
+use Rattle.tab_history.specs.declared.entries.Doubt.TheVariants.{Change as Changed}
+
+-- what a history has come to: the world, the bounds in force, the table that each request's last look-up gave, the
+-- last one first, and the operations of which it is open whether they stand
+pub record State : Type 0 where
+  pub world : World
+  pub bounds : List Bound
+  pub tables : List (ℕ × Option ℕ)
+  pub doubts : List (ℕ × Doubt)
+
+-- the table that the last look-up of a request gave
+unfoldable pub table_for : List (ℕ × Option ℕ) → ℕ → Option ℕ
+table_for tables ask = option_and_then (λ last. last.1) (find (λ last. last.0 == ask) tables)
+
+-- the operation that an entry says was accepted
+abbrev pub accepted : Entry → Option Doubt
+accepted (Bounds bounds) = None
+accepted (Resolve ask name table) = None
+accepted (Page ask table options page) = None
+accepted (Change ask now table group (Ok tick)) = Some (Changed table group tick)
+accepted (Change ask now table group (Err refusal)) = None
+accepted (Denied ask why) = None
+
+-- the world after an operation
+abbrev pub acted : World → Doubt → World
+acted world (Changed table group tick) =
+    record world { rows = result_unwrap_or (group_outcome world.rows table tick group) world.rows; floors = raised world.floors (group_keys table group) tick }
+
+-- the world after an entry
+abbrev pub world_after : World → Option Doubt → World
+world_after world None = world
+world_after world (Some operation) = acted world operation
+
+abbrev pub bounds_after : List Bound → Entry → List Bound
+bounds_after bounds (Bounds later) = later
+bounds_after bounds (Resolve ask name table) = bounds
+bounds_after bounds (Page ask table options page) = bounds
+bounds_after bounds (Change ask now table group result) = bounds
+bounds_after bounds (Denied ask why) = bounds
+
+abbrev pub tables_after : List (ℕ × Option ℕ) → Entry → List (ℕ × Option ℕ)
+tables_after tables (Resolve ask name table) = (ask, table) ∷ tables
+tables_after tables (Bounds later) = tables
+tables_after tables (Page ask table options page) = tables
+tables_after tables (Change ask now table group result) = tables
+tables_after tables (Denied ask why) = tables
+
+-- what a history has come to after one more entry
+abbrev pub after : State → Entry → State
+after state entry = record {
+  world = world_after state.world (accepted entry);
+  bounds = bounds_after state.bounds entry;
+  tables = tables_after state.tables entry;
+  doubts = state.doubts;
+}
+
+abbrev pub after_all : State → List Entry → State
+after_all state [] = state
+after_all state (entry ∷ entries) = after_all (after state entry) entries
+
+-- the bounds cut the whole space of keys: the first stands before all keys, and they rise
+abbrev pub AreBounds : List Bound → Type 0
+AreBounds [] = ⊥
+AreBounds (bound ∷ bounds) = (bound ≡ At 0 []) × AllPairs (λ a b. IsTrue (bound_lt a b)) (bound ∷ bounds)
+
+-- the reasons for which a request may be denied whatever the world is
+abbrev pub IsDenial : Why → Type 0
+IsDenial Memory = ⊤
+IsDenial (Op refusal) = ⊥
+
+-- an entry that a history may go on with
+abbrev pub Allows : State → Entry → Type 0
+Allows state (Bounds bounds) = AreBounds bounds
+Allows state (Resolve ask name table) = table ≡ table_of state.world.names name
+Allows state (Page ask table options page) =
+    (table_for state.tables ask ≡ Some table) × (page ≡ page_of state.world.rows state.bounds table options)
+Allows state (Change ask now table group (Ok tick)) =
+    (table_for state.tables ask ≡ Some table)
+    × ((rows : List RowView) × (group_outcome state.world.rows table tick group ≡ Ok rows))
+    × MayHaveTick state.world.floors (group_keys table group) now tick
+Allows state (Change ask now table group (Err refusal)) =
+    (table_for state.tables ask ≡ Some table) × (group_outcome state.world.rows table 0 group ≡ Err refusal)
+Allows state (Denied ask why) = IsDenial why
+
+-- each entry of a history is one that the world may go on with
+abbrev pub Legal : State → List Entry → Type 0
+Legal state [] = ⊤
+Legal state (entry ∷ entries) = Allows state entry × Legal (after state entry) entries

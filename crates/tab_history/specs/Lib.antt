@@ -1,0 +1,6 @@
+pub mod Rows
+pub mod Groups
+pub mod Pages
+pub mod World
+pub mod Changes
+pub mod Legality

@@ -1,0 +1,35 @@
+-- Rows, and lists of rows in the order of their keys.
+use Rattle.std.specs.Prelude.{◌≡◌, ℕ, ◌≤◌, List, ◌++◌, ◌∷◌, length, Bool, not, ◌||◌, filter, find, AllPairs, IsTrue, Option}
+use Rattle.tab_keys.specs.KeyTexts.{units_of}
+use Rattle.tab_keys.specs.Order.{key_lt, same_key}
+use Rattle.tab_keys.specs.declared.keys.Key.{Key}
+use Rattle.tab_edm.specs.Entities.{EntityView}
+use Rattle.tab_edm.specs.declared.TheConstants.{GREATEST}
+
+-- what contracts see of a row
+pub record RowView : Type 0 where
+  pub key : Key
+  pub entity : EntityView
+  pub tick : ℕ
+
+-- the tick is a moment, and the entity was made for the row's keys
+pub record IsRow (key : Key) (entity : EntityView) (tick : ℕ) : Type 0 where
+  pub in_time : tick ≤ GREATEST
+  pub pk_units : entity.pk_units ≡ length (units_of key.pk)
+  pub rk_units : entity.rk_units ≡ length (units_of key.rk)
+
+-- the keys rise, so each stands once
+abbrev pub AreRising : List RowView → Type 0
+AreRising rows = AllPairs (λ a b. IsTrue (key_lt a.key b.key)) rows
+
+-- the row at the key, where there is one
+unfoldable pub row_at : List RowView → Key → Option RowView
+row_at rows key = find (λ row. same_key row.key key) rows
+
+-- the rows with this one at its key: those below it, it, and those above it
+unfoldable pub with_row : List RowView → RowView → List RowView
+with_row rows row = filter (λ other. key_lt other.key row.key) rows ++ row ∷ filter (λ other. key_lt row.key other.key) rows
+
+-- the rows without the one at the key
+unfoldable pub without_row : List RowView → Key → List RowView
+without_row rows key = filter (λ other. key_lt other.key key || key_lt key other.key) rows

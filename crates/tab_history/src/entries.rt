@@ -1,0 +1,80 @@
+use std::marker::Model;
+use tab_keys::{Bound, TableName};
+
+use crate::{Group, OpRefused, Options, Page};
+
+/// Why a request was denied.
+#[derive(Clone, Copy, Debug, PartialEq, Eq)]
+pub enum Denied {
+    /// An operation of its group was refused.
+    Op(OpRefused),
+    /// No memory was found.
+    Memory,
+}
+
+/// The lower bounds of the ranges, in the order of keys.
+#[derive(Debug, Drop)]
+pub struct Bounds {
+    bounds: Vec<Bound>,
+}
+
+impl Model for Bounds {
+    ghost use Rattle.std.specs.Prelude.{List, vec_items};
+    ghost use Rattle.tab_keys.specs.declared.bounds.Bound.{Bound};
+
+    ghost Value = { List Bound };
+
+    ghost view = { λ all. all.bounds.items };
+}
+
+/// One step of a history. An `ask` is the number of the request that it belongs to.
+#[derive(Debug, Drop)]
+pub enum Entry {
+    /// The ranges, from here on.
+    Bounds(Bounds),
+    /// A request's table name was looked up.
+    Resolve {
+        ask: u64,
+        name: TableName,
+        table: Option<u64>,
+    },
+    /// A page was given.
+    Page {
+        ask: u64,
+        table: u64,
+        options: Options,
+        page: Page,
+    },
+    /// A group acted at the moment `now`: it stands with its tick, or was refused.
+    Change {
+        ask: u64,
+        now: u64,
+        table: u64,
+        group: Group,
+        result: Result<u64, OpRefused>,
+    },
+    /// A request was denied for a reason that the world alone does not give.
+    Denied { ask: u64, why: Denied },
+}
+
+/// An operation on the world: one that was accepted, or one of which a failure left open whether it stands.
+#[derive(Debug, Drop)]
+pub enum Doubt {
+    /// A change of rows with its tick.
+    Change { table: u64, group: Group, tick: u64 },
+}
+
+/// The entries of a run, in their order.
+#[derive(Debug, Drop)]
+pub struct History {
+    entries: Vec<Entry>,
+}
+
+impl Model for History {
+    ghost use Rattle.std.specs.Prelude.{List, vec_items};
+    ghost use Rattle.tab_history.specs.declared.entries.Entry.{Entry};
+
+    ghost Value = { List Entry };
+
+    ghost view = { λ history. history.entries.items };
+}

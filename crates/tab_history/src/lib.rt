@@ -1,0 +1,15 @@
+//! What the whole service means, and no machinery: the world as one ordered map, the entries of a history, which
+//! histories are legal, and the values that pass between the layers.
+#![tactic(auto)]
+
+mod entries;
+mod exchanges;
+mod groups;
+mod pages;
+mod rows;
+
+pub use entries::{Bounds, Denied, Doubt, Entry, History};
+pub use exchanges::{Ask, Reply};
+pub use groups::{Group, Item, Op, OpRefused};
+pub use pages::{Names, Options, Page, PageRows, Select};
+pub use rows::Row;

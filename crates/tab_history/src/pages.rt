@@ -1,0 +1,57 @@
+use std::marker::Model;
+use tab_keys::{Bound, KeyText};
+
+use crate::Row;
+
+/// Names of properties, in the order in which they were given.
+#[derive(Debug, Drop)]
+pub struct Names {
+    texts: Vec<String>,
+}
+
+impl Model for Names {
+    ghost use Rattle.std.specs.Prelude.{List, ℕ, map, string_bytes};
+
+    ghost Value = { List (List ℕ) };
+
+    ghost view = { λ names. map string_bytes names.texts.items };
+}
+
+/// The properties that a query asks for.
+#[derive(Debug, Drop)]
+pub enum Select {
+    All,
+    Names(Names),
+}
+
+/// What a query asks for: which properties, how many rows at the most, and where the page begins.
+#[derive(Debug, Drop)]
+pub struct Options {
+    pub select: Select,
+    pub top: u16,
+    pub start: Option<(KeyText, KeyText)>,
+}
+
+/// The rows of a page, in the order of their keys.
+#[derive(Debug, Drop)]
+pub struct PageRows {
+    rows: Vec<Row>,
+}
+
+impl Model for PageRows {
+    ghost use Rattle.std.specs.Prelude.{List, vec_items};
+    ghost use Rattle.tab_history.specs.Rows.{RowView};
+
+    ghost Value = { List RowView };
+
+    ghost view = { λ page. page.rows.items };
+}
+
+/// A page of a query: its rows, the partition key and row key at which the next page begins, and the bound up to
+/// which it looked.
+#[derive(Debug, Drop)]
+pub struct Page {
+    pub rows: PageRows,
+    pub next: Option<(KeyText, KeyText)>,
+    pub end: Bound,
+}
