@@ -1,13 +1,6 @@
-// A library with one function.
+//! Schedules of requests, and the top call `run`.
 #![tactic(auto)]
 
-ghost use Rattle.std.specs.Prelude.{◌≡◌};
-ghost use Rattle.tab_drive.specs.Echo.{echo_of};
+mod schedule;
 
-// The `ensures` clause is the contract: what `echo` returns is `echo_of` of its argument, a definition
-// in `specs/Echo.antt`, which a caller's clause can cite too.
-pub fn echo(x: usize) -> usize
-    ensures { result ≡ echo_of x }
-{
-    x
-}
+pub use schedule::{RawMessage, Scheduled};

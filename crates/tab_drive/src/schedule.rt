@@ -1,0 +1,40 @@
+ghost use Rattle.std.specs.Prelude.{◌≡◌, vec_items};
+
+use std::marker::Model;
+
+/// The bytes of one message of a client.
+#[derive(Debug, Drop)]
+pub struct RawMessage {
+    bytes: Vec<u8>,
+}
+
+impl Model for RawMessage {
+    ghost use Rattle.std.specs.Prelude.{List, ℕ, vec_items};
+
+    ghost Value = { List ℕ };
+
+    ghost view = { λ message. message.bytes.items };
+}
+
+impl RawMessage {
+    pub fn new(bytes: Vec<u8>) -> RawMessage
+        ensures { result ≡ bytes.items }
+    {
+        RawMessage { bytes }
+    }
+
+    pub fn as_slice(&self) -> &[u8]
+        ensures { result.now ≡ self.now }
+    {
+        self.bytes.as_slice()
+    }
+}
+
+/// One event of a schedule.
+#[derive(Debug, Drop)]
+pub enum Scheduled {
+    /// Sets the moment, in ticks of 100 ns since 1601-01-01T00:00:00Z.
+    Now { moment: u64 },
+    /// A client's message comes, and is answered.
+    Call { message: RawMessage },
+}

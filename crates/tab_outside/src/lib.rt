@@ -1,0 +1,24 @@
+//! What the service takes from outside: sources and sinks of bytes, a clock and disks, each with a count of
+//! its faults, and their forms in memory.
+#![tactic(auto)]
+
+mod clocks;
+mod disks;
+mod listed_calls;
+mod pieces;
+mod sinks;
+mod sources;
+
+pub use clocks::{Clock, SetClock};
+pub use disks::{Disk, MemDisk};
+pub use pieces::{read_byte, write_all};
+pub use sinks::{MemSink, Sink};
+pub use sources::{MemSource, Source};
+
+/// A call of something outside that failed. Its cause is told by the count of faults alone.
+#[derive(Clone, Copy, Debug, PartialEq, Eq)]
+pub struct Failed;
+
+/// A refusal by want of memory.
+#[derive(Clone, Copy, Debug, PartialEq, Eq)]
+pub struct Memory;
