@@ -31,7 +31,7 @@ abbrev pub rows_after : ℕ → List RowView → ℕ → ℕ → List ItemView �
 rows_after index rows table tick [] = Ok rows
 rows_after index rows table tick (item ∷ items) =
     unless_refused (outcome_of index (row_at rows (item_key table item)) item.op)
-        (λ outcome. rows_after (index + 1) (settled rows (item_key table item) tick outcome) table tick items)
+    (λ outcome. rows_after (index + 1) (settled rows (item_key table item) tick outcome) table tick items)
 
 -- the rows after a group, or its first refusal
 abbrev pub group_outcome : List RowView → ℕ → ℕ → List ItemView → Result (List RowView) OpRefused

@@ -32,7 +32,7 @@ table_of names name = option_map (λ named. named.table) (find (λ named. bytes_
 unfoldable pub floor_of : Floors → Key → ℕ
 floor_of floors key =
     unwrap_or (option_map (λ change. change.1) (find (λ change. same_key change.0 key) floors.later))
-        (unwrap_or (option_map (λ part. part.1) (find (λ part. has part.0 key) floors.opening)) 0)
+    (unwrap_or (option_map (λ part. part.1) (find (λ part. has part.0 key) floors.opening)) 0)
 
 -- each of the keys changed with this tick
 unfoldable pub raised : Floors → List Key → ℕ → Floors

@@ -1,7 +1,9 @@
-use std::marker::Model;
-use tab_keys::{Bound, TableName};
+ghost use Rattle.std.specs.Prelude.{◌≡◌, [], ◌∷◌, ◌++◌, OnOk, OnErr};
 
 use crate::{Group, OpRefused, Options, Page};
+use std::alloc::Global;
+use std::marker::Model;
+use tab_keys::{Bound, TableName};
 
 /// Why a request was denied.
 #[derive(Clone, Copy, Debug, PartialEq, Eq)]
@@ -54,7 +56,10 @@ pub enum Entry {
         result: Result<u64, OpRefused>,
     },
     /// A request was denied for a reason that the world alone does not give.
-    Denied { ask: u64, why: Denied },
+    Denied {
+        ask: u64,
+        why: Denied,
+    },
 }
 
 /// An operation on the world: one that was accepted, or one of which a failure left open whether it stands.
@@ -77,4 +82,33 @@ impl Model for History {
     ghost Value = { List Entry };
 
     ghost view = { λ history. history.entries.items };
+}
+
+impl Bounds {
+    /// The bounds, in the order in which they stand.
+    pub fn new(bounds: Vec<Bound>) -> Bounds
+        ensures { result ≡ bounds.items }
+    {
+        Bounds { bounds }
+    }
+
+    pub fn as_slice(&self) -> &[Bound]
+        ensures { result.now ≡ self.now }
+    {
+        self.bounds.as_slice()
+    }
+}
+
+impl History {
+    pub fn new(entries: Vec<Entry>) -> History
+        ensures { result ≡ entries.items }
+    {
+        History { entries }
+    }
+
+    pub fn as_slice(&self) -> &[Entry]
+        ensures { result.now ≡ self.now }
+    {
+        self.entries.as_slice()
+    }
 }

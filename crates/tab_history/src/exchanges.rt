@@ -1,6 +1,5 @@
-use tab_keys::TableName;
-
 use crate::{Denied, Group, Options, Page};
+use tab_keys::TableName;
 
 /// What a request asks of the store.
 #[derive(Debug, Drop)]

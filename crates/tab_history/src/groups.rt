@@ -1,6 +1,9 @@
+ghost use Rattle.std.specs.Prelude.{◌≡◌, [], ◌∷◌, IfOk};
+
+use std::alloc::Global;
 use std::marker::Model;
 use tab_edm::Entity;
-use tab_keys::{KeyText, TableName};
+use tab_keys::{KeyText, Memory, TableName};
 
 /// An operation on one row.
 #[derive(Debug, Drop)]
@@ -43,6 +46,26 @@ impl Model for Group {
     ghost Value = { List ItemView };
 
     ghost view = { λ group. group.items.items };
+}
+
+impl Group {
+    /// The group of one operation.
+    pub fn of(alloc: Global, item: Item) -> Result<Group, Memory>
+        ensures { IfOk result (λ group. group ≡ item ∷ []) }
+    {
+        let mut items = Vec::new(alloc);
+        match items.push(item) {
+            Ok(()) => Ok(Group { items }),
+            Err(_) => Err(Memory),
+        }
+    }
+
+    /// The operations, in the order in which they act.
+    pub fn items(&self) -> &[Item]
+        ensures { result.now ≡ self.now }
+    {
+        self.items.as_slice()
+    }
 }
 
 /// Why a group is refused, with the place of the first operation that is.

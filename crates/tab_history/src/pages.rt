@@ -1,7 +1,8 @@
-use std::marker::Model;
-use tab_keys::{Bound, KeyText};
+ghost use Rattle.std.specs.Prelude.{◌≡◌, map, string_bytes};
 
 use crate::Row;
+use std::marker::Model;
+use tab_keys::{Bound, KeyText};
 
 /// Names of properties, in the order in which they were given.
 #[derive(Debug, Drop)]
@@ -15,6 +16,20 @@ impl Model for Names {
     ghost Value = { List (List ℕ) };
 
     ghost view = { λ names. map string_bytes names.texts.items };
+}
+
+impl Names {
+    pub fn new(texts: Vec<String>) -> Names
+        ensures { result ≡ map string_bytes texts.items }
+    {
+        Names { texts }
+    }
+
+    pub fn as_slice(&self) -> &[String]
+        ensures { map string_bytes result.now ≡ self.now }
+    {
+        self.texts.as_slice()
+    }
 }
 
 /// The properties that a query asks for.
@@ -45,6 +60,20 @@ impl Model for PageRows {
     ghost Value = { List RowView };
 
     ghost view = { λ page. page.rows.items };
+}
+
+impl PageRows {
+    pub fn new(rows: Vec<Row>) -> PageRows
+        ensures { result ≡ rows.items }
+    {
+        PageRows { rows }
+    }
+
+    pub fn as_slice(&self) -> &[Row]
+        ensures { result.now ≡ self.now }
+    {
+        self.rows.as_slice()
+    }
 }
 
 /// A page of a query: its rows, the partition key and row key at which the next page begins, and the bound up to

@@ -1,6 +1,7 @@
 -- The order of keys and of the bounds between them.
-use Rattle.std.specs.Prelude.{ℕ, List, [], Bool, true, false, not, ◌||◌}
+use Rattle.std.specs.Prelude.{ℕ, List, [], Bool, true, false}
 use Rattle.std.specs.declared.cmp.Ordering.{Ordering}
+use Rattle.std.specs.declared.cmp.Ordering.TheVariants.{Less, Equal, Greater}
 use Rattle.std.specs.Ordering.{ordering_then, is_lt, is_eq, nat_cmp}
 use Rattle.std.specs.Cmp.Lexicographic.{slice_cmp}
 use Rattle.tab_keys.specs.KeyTexts.{units_of}
@@ -37,9 +38,15 @@ abbrev pub is_before : Key → Bound → Bool
 is_before key (At table pk) = key_lt key (head_key table pk)
 is_before key End = true
 
-
 -- one bound stands before another
 abbrev pub bound_lt : Bound → Bound → Bool
 bound_lt (At table pk) (At other key) = key_lt (head_key table pk) (head_key other key)
 bound_lt (At table pk) End = true
 bound_lt End other = false
+
+-- the order of bounds, where End comes last
+abbrev pub bound_cmp : Bound → Bound → Ordering
+bound_cmp (At table pk) (At other key) = key_cmp (head_key table pk) (head_key other key)
+bound_cmp (At table pk) End = Less
+bound_cmp End (At other key) = Greater
+bound_cmp End End = Equal

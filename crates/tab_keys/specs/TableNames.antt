@@ -1,5 +1,5 @@
 -- Which texts are table names, and when two names are one.
-use Rattle.std.specs.Prelude.{◌≡◌, ℕ, ◌+◌, List, length, map, Bool, true, not, ◌&&◌, ◌||◌, ◌==◌, nat_le, if◌then◌else◌, Option, Some, None, codes, bytes_eq, slice_index}
+use Rattle.std.specs.Prelude.{◌≡◌, ℕ, ◌+◌, List, length, map, Bool, ◌&&◌, ◌||◌, nat_le, if◌then◌else◌, Option, Some, None, codes, bytes_eq, slice_index}
 use Rattle.std.specs.List.{list_all}
 use Rattle.tab_keys.specs.declared.table_names.NameRefused.{NameRefused}
 use Rattle.tab_keys.specs.declared.table_names.NameRefused.TheVariants.{BadName, Reserved}

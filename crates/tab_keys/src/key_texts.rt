@@ -1,6 +1,15 @@
-ghost use Rattle.std.specs.Prelude.{◌≡◌, length};
+ghost use Rattle.std.specs.Prelude.{◌≡◌, length, IfOk, MatchResult, None};
+ghost use Rattle.std.specs.Option.{unwrap_or};
+ghost use Rattle.std.specs.Str.{chars};
+ghost use Rattle.std.specs.List.{list_any};
+ghost use Rattle.tab_keys.specs.KeyTexts.{units_of, is_bad_character, key_refusal, IsKeyText};
 
+use crate::Memory;
+use std::alloc::Global;
 use std::marker::Model;
+
+/// The most UTF-16 code units that a key text has.
+const MOST_UNITS: usize = 1024;
 
 /// Why a text is no key.
 #[derive(Clone, Copy, Debug, PartialEq, Eq)]
@@ -32,10 +41,65 @@ impl Model for KeyText {
 }
 
 impl KeyText {
+    #[tactic(auto, unfolding(crate::specs::KeyTexts::key_refusal))]
+    /// A copy of the text, if it is a key. The empty text is one.
+    pub fn new(alloc: Global, text: &str) -> Result<KeyText, KeyRefused>
+        ensures { MatchResult result
+            (λ key. (key ≡ text.now) × (key_refusal text.now ≡ None))
+            (λ why. unwrap_or (key_refusal text.now) KeyRefused.Memory ≡ why) }
+    {
+        if count_units(text) > MOST_UNITS {
+            return Err(KeyRefused::TooLong);
+        }
+        if has_bad_character(text) {
+            return Err(KeyRefused::BadCharacter);
+        }
+        match String::from_str(alloc, text) {
+            Ok(text) => Ok(KeyText { text }),
+            Err(_) => Err(KeyRefused::Memory),
+        }
+    }
+
     /// The key's text.
     pub fn as_str(&self) -> &str
         ensures text { result.now ≡ self.now }
+        ensures key { IsKeyText self.now }
     {
         self.text.as_str()
     }
+
+    /// The length of the text in UTF-16 code units.
+    pub fn units(&self) -> usize
+        ensures units { result ≡ length (units_of self.now) }
+        ensures key { IsKeyText self.now }
+    {
+        count_units(self.text.as_str())
+    }
+
+    pub fn try_copy(&self, alloc: Global) -> Result<KeyText, Memory>
+        ensures { IfOk result (λ copy. copy ≡ self.now) }
+    {
+        match String::from_str(alloc, self.text.as_str()) {
+            Ok(text) => Ok(KeyText { text }),
+            Err(_) => Err(Memory),
+        }
+    }
+}
+
+fn count_units(text: &str) -> usize
+    ensures { result ≡ length (units_of text.now) }
+{
+    text.encode_utf16().count()
+}
+
+fn has_bad_character(text: &str) -> bool
+    ensures { result ≡ list_any is_bad_character (chars text.now) }
+{
+    text.chars().any(is_bad_character)
+}
+
+fn is_bad_character(c: char) -> bool
+    ensures { result ≡ is_bad_character c }
+{
+    matches!(c, '/' | '\\' | '#' | '?' | '\u{0}'..='\u{1f}' | '\u{7f}'..='\u{9f}')
 }

@@ -1,6 +1,19 @@
-ghost use Rattle.std.specs.Prelude.{◌≡◌, length};
+ghost use Rattle.std.specs.Prelude.{◌≡◌, length, IfOk, MatchResult, None, bytes_eq, codes, ◌||◌};
+ghost use Rattle.std.specs.Option.{unwrap_or};
+ghost use Rattle.std.specs.List.{list_all};
+ghost use Rattle.tab_keys.specs.TableNames.{folded, is_letter, is_digit, is_well_formed, name_refusal, IsTableName};
 
+use crate::Memory;
+use std::alloc::Global;
 use std::marker::Model;
+
+/// The fewest and the most letters and digits of a name.
+const LEAST_LETTERS: usize = 3;
+
+const MOST_LETTERS: usize = 63;
+
+/// The name that no table may have, in lower case.
+const RESERVED: &str = "tables";
 
 /// Why a text is no table name.
 #[derive(Clone, Copy, Debug, PartialEq, Eq)]
@@ -31,10 +44,73 @@ impl Model for TableName {
 }
 
 impl TableName {
+    /// A copy of the text, if it is a table name.
+    #[tactic(auto, unfolding(crate::specs::TableNames::name_refusal))]
+    pub fn new(alloc: Global, text: &str) -> Result<TableName, NameRefused>
+        ensures { MatchResult result
+            (λ name. (name ≡ text.now) × (name_refusal text.now ≡ None))
+            (λ why. unwrap_or (name_refusal text.now) NameRefused.Memory ≡ why) }
+    {
+        if !is_well_formed(text.as_bytes()) {
+            return Err(NameRefused::BadName);
+        }
+        if is_reserved(text) {
+            return Err(NameRefused::Reserved);
+        }
+        match String::from_str(alloc, text) {
+            Ok(text) => Ok(TableName { text }),
+            Err(_) => Err(NameRefused::Memory),
+        }
+    }
+
     /// The name as it was spelled.
     pub fn as_str(&self) -> &str
         ensures text { result.now ≡ self.now }
+        ensures name { IsTableName self.now }
     {
         self.text.as_str()
     }
+
+    pub fn try_copy(&self, alloc: Global) -> Result<TableName, Memory>
+        ensures { IfOk result (λ copy. copy ≡ self.now) }
+    {
+        match String::from_str(alloc, self.text.as_str()) {
+            Ok(text) => Ok(TableName { text }),
+            Err(_) => Err(Memory),
+        }
+    }
+}
+
+#[tactic(auto, unfolding(crate::specs::TableNames::is_well_formed))]
+fn is_well_formed(name: &[u8]) -> bool
+    ensures { result ≡ is_well_formed name.now }
+{
+    if name.len() < LEAST_LETTERS || name.len() > MOST_LETTERS {
+        return false;
+    }
+    is_letter(name[0]) && has_only_letters_and_digits(name)
+}
+
+fn has_only_letters_and_digits(name: &[u8]) -> bool
+    ensures { result ≡ list_all (λ b. is_letter b || is_digit b) name.now }
+{
+    name.iter().all(|b| is_letter_or_digit(*b))
+}
+
+fn is_letter(b: u8) -> bool
+    ensures { result ≡ is_letter b }
+{
+    b.is_ascii_alphabetic()
+}
+
+fn is_letter_or_digit(b: u8) -> bool
+    ensures { result ≡ (is_letter b || is_digit b) }
+{
+    b.is_ascii_alphanumeric()
+}
+
+fn is_reserved(name: &str) -> bool
+    ensures { result ≡ bytes_eq (folded name.now) (codes "tables") }
+{
+    name.eq_ignore_ascii_case(RESERVED)
 }
