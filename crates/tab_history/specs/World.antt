@@ -46,6 +46,11 @@ pub record MayHaveTick (floors : Floors) (keys : List Key) (now tick : ℕ) : Ty
   pub not_ahead : (tick ≤ now) ⊎ ((key : Key) × (tick ≤ floor_of floors key))
   pub in_time : tick ≤ GREATEST
 
+-- one number that serves for all floors: none is above it, and, but for 0, one is as great
+pub record IsNextTick (floors : Floors) (next : ℕ) : Type 0 where
+  pub above : (key : Key) → floor_of floors key ≤ next
+  pub reached : (next ≡ 0) ⊎ ((key : Key) × (next ≤ floor_of floors key))
+
 -- what every world keeps
 pub record IsWorld (world : World) : Type 0 where
   pub names_rise : AllPairs (λ a b. IsTrue (is_lt (name_cmp a.spelling b.spelling))) world.names

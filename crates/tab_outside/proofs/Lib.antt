@@ -1,1 +1,1 @@
-mod Buffers
+mod Fronts

@@ -1,10 +1,10 @@
 ghost use Rattle.std.specs.Prelude.{◌≡◌, ℕ, ◌≤◌, Bool, false, IfOk, IsFalse, length};
 ghost use Rattle.tab_outside.specs.Faults.{HasCause};
 
-use std::alloc::Global;
-
 use crate::Failed;
+use crate::buffers::copy_front;
 use crate::listed_calls::ListedCalls;
+use std::alloc::Global;
 
 /// A row of bytes that outlives the program.
 pub trait Disk {
@@ -96,11 +96,10 @@ impl Disk for MemDisk {
 
     fn read_at(&mut self, at: u64, buf: &mut [u8]) -> Result<usize, Failed> {
         self.calls.begin()?;
-        let Ok(at) = usize::try_from(at) else { return Ok(0) };
-        let rest = self.bytes.get(at..).unwrap_or_default();
-        let count = rest.len().min(buf.len());
-        buf[..count].copy_from_slice(&rest[..count]);
-        Ok(count)
+        let Ok(at) = usize::try_from(at) else {
+            return Ok(0)
+        };
+        Ok(copy_front(self.bytes.get(at..).unwrap_or_default(), buf))
     }
 
     fn write_at(&mut self, at: u64, piece: &[u8]) -> Result<(), Failed> {

@@ -2,6 +2,7 @@
 //! its faults, and their forms in memory.
 #![tactic(auto)]
 
+mod buffers;
 mod clocks;
 mod disks;
 mod listed_calls;
@@ -11,7 +12,7 @@ mod sources;
 
 pub use clocks::{Clock, SetClock};
 pub use disks::{Disk, MemDisk};
-pub use pieces::{read_byte, write_all};
+pub use pieces::{FillRefused, fill, read_byte, write_all};
 pub use sinks::{MemSink, Sink};
 pub use sources::{MemSource, Source};
 

@@ -1,9 +1,23 @@
-ghost use Rattle.std.specs.Prelude.{◌≡◌, ◌+◌, ◌<◌, length, vec_len, IfOk, OnOk, OnErr, IsErrOf};
-ghost use Rattle.std.specs.Io.KnownBytes.{Keeps, Appends, IsAtEnd};
+ghost use Rattle.std.specs.Prelude.{◌≡◌, ◌+◌, ◌<◌, ◌≤◌, length, take, vec_len, IfOk, OnOk, OnErr, IsErrOf};
+ghost use Rattle.std.specs.Io.KnownBytes.{Keeps, Appends, Consumes, IsAtEnd};
 ghost use Rattle.tab_outside.specs.Faults.{HasCause, Rose};
 ghost use Rattle.tab_outside.specs.Transfers.{ReadsByte, TookFront, Moved};
 
 use crate::{Failed, Sink, Source};
+
+/// The most room that is made before the bytes for it have come.
+const PIECE: usize = 65_536;
+
+/// Why fewer bytes were read than asked for.
+#[derive(Clone, Copy, Debug, PartialEq, Eq)]
+pub enum FillRefused {
+    /// The input ended.
+    Ended,
+    /// A read failed.
+    Failed,
+    /// No memory was found for what was to come.
+    Memory,
+}
 
 /// Reads one byte, or None at the end of input.
 pub fn read_byte<S: Source>(source: &mut S) -> Result<Option<u8>, Failed>
@@ -15,6 +29,77 @@ pub fn read_byte<S: Source>(source: &mut S) -> Result<Option<u8>, Failed>
     let mut buf = [0];
     let count = source.read(&mut buf)?;
     Ok(if count == 0 { None } else { Some(buf[0]) })
+}
+
+/// Reads `count` bytes behind what `into` has. Room is made as the bytes come, so no length that was only
+/// announced takes memory. After a refusal `into` has the bytes that came before it.
+pub fn fill<S: Source>(source: &mut S, count: usize, into: &mut Vec<u8>) -> Result<(), FillRefused>
+    ensures moved { Moved (S.left source.old) (S.left source.new) into.old.items into.new.items }
+    ensures whole { OnOk result (vec_len into.new ≡ vec_len into.old + count) }
+    ensures short { OnErr result (vec_len into.new < vec_len into.old + count) }
+    ensures ended { IsErrOf result FillRefused.Ended → IsAtEnd (S.left source.new) }
+    ensures failed { IsErrOf result FillRefused.Failed → Rose (S.faults source.old) (S.faults source.new) }
+    ensures later { S.faults source.old ≤ S.faults source.new }
+    ensures beside { S.beside source.new ≡ S.beside source.old }
+{
+    let mut missing = count;
+    while missing > 0 {
+        let size = missing.min(PIECE);
+        fill_piece(source, size, into)?;
+        missing -= size;
+    }
+    Ok(())
+}
+
+/// Reads `count` bytes behind what `into` has, in room that is made at once.
+fn fill_piece<S: Source>(
+    source: &mut S,
+    count: usize,
+    into: &mut Vec<u8>,
+) -> Result<(), FillRefused>
+    requires { 0 < count }
+    ensures moved { Moved (S.left source.old) (S.left source.new) into.old.items into.new.items }
+    ensures whole { OnOk result (vec_len into.new ≡ vec_len into.old + count) }
+    ensures short { OnErr result (vec_len into.new < vec_len into.old + count) }
+    ensures ended { IsErrOf result FillRefused.Ended → IsAtEnd (S.left source.new) }
+    ensures failed { IsErrOf result FillRefused.Failed → Rose (S.faults source.old) (S.faults source.new) }
+    ensures later { S.faults source.old ≤ S.faults source.new }
+    ensures beside { S.beside source.new ≡ S.beside source.old }
+{
+    let start = into.len();
+    let Some(end) = start.checked_add(count) else {
+        return Err(FillRefused::Memory);
+    };
+    let Ok(()) = into.resize(end, 0) else {
+        return Err(FillRefused::Memory);
+    };
+    let (done, outcome) = read_full(source, &mut into[start..]);
+    into.truncate(start + done);
+    outcome
+}
+
+/// Reads until the buffer is full. Answers how many bytes came, and why not all.
+fn read_full<S: Source>(source: &mut S, buf: &mut [u8]) -> (usize, Result<(), FillRefused>)
+    ensures bound { result.0 ≤ length buf.old }
+    ensures bytes { Consumes (S.left source.old) (S.left source.new) (take result.0 buf.new) }
+    ensures whole { OnOk result.1 (result.0 ≡ length buf.old) }
+    ensures short { OnErr result.1 (result.0 < length buf.old) }
+    ensures ended { IsErrOf result.1 FillRefused.Ended → IsAtEnd (S.left source.new) }
+    ensures failed { IsErrOf result.1 FillRefused.Failed → Rose (S.faults source.old) (S.faults source.new) }
+    ensures later { S.faults source.old ≤ S.faults source.new }
+    ensures beside { S.beside source.new ≡ S.beside source.old }
+{
+    let mut done = 0;
+    while done < buf.len() {
+        let Ok(count) = source.read(&mut buf[done..]) else {
+            return (done, Err(FillRefused::Failed));
+        };
+        if count == 0 {
+            return (done, Err(FillRefused::Ended));
+        }
+        done += count;
+    }
+    (done, Ok(()))
 }
 
 /// Writes the whole piece.

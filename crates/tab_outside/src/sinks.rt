@@ -3,10 +3,9 @@ ghost use Rattle.std.specs.Io.KnownBytes.{WriteAppends};
 ghost use Rattle.tab_outside.specs.Faults.{HasCause, Rose};
 ghost use Rattle.tab_outside.specs.Sides.{Side, nothing_beside};
 
-use std::alloc::Global;
-
 use crate::Failed;
 use crate::listed_calls::ListedCalls;
+use std::alloc::Global;
 
 /// Where bytes are written to, in order.
 pub trait Sink {

@@ -4,6 +4,7 @@ ghost use Rattle.tab_outside.specs.Faults.{HasCause};
 ghost use Rattle.tab_outside.specs.Sides.{Side, nothing_beside};
 
 use crate::Failed;
+use crate::buffers::copy_front;
 use crate::listed_calls::ListedCalls;
 
 /// Where bytes are read from, in order.
@@ -58,9 +59,7 @@ impl Source for MemSource {
 
     fn read(&mut self, buf: &mut [u8]) -> Result<usize, Failed> {
         self.calls.begin()?;
-        let rest = &self.bytes[self.at..];
-        let count = rest.len().min(buf.len());
-        buf[..count].copy_from_slice(&rest[..count]);
+        let count = copy_front(&self.bytes[self.at..], buf);
         self.at += count;
         Ok(count)
     }

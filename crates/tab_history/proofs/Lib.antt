@@ -1,0 +1,3 @@
+pub mod HistoryLaws
+pub mod PageLaws
+pub mod ChangeLaws
