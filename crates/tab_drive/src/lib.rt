@@ -1,6 +1,14 @@
 //! Schedules of requests, and the top call `run`.
 #![tactic(auto)]
 
+mod copies;
+mod lines;
+mod outgoing;
+mod reading;
 mod schedule;
+mod session;
 
+pub use outgoing::{Outgoing, write_outgoing, write_pieces};
+pub use reading::{NextEvent, Unread, next_event};
 pub use schedule::{RawMessage, Scheduled};
+pub use session::{Session, StepRefused};

@@ -1,5 +1,5 @@
 -- Moments and ETags as texts.
-use Rattle.std.specs.Prelude.{ℕ, zero, suc, ◌+◌, ◌/◌, ◌%◌, List, [], ◌∷◌, ◌++◌, ◌==◌, nat_lt, if◌then◌else◌, flat_map, codes, pos}
+use Rattle.std.specs.Prelude.{ℕ, zero, suc, ◌+◌, ◌/◌, ◌%◌, List, [], ◌∷◌, ◌++◌, nat_lt, if◌then◌else◌, codes, pos}
 use Rattle.jiff_core.specs.Calendar.{days_in_month}
 
 -- a date of the calendar
@@ -29,20 +29,21 @@ last_digits (suc count) n = last_digits count (n / 10) ++ (48 + n % 10) ∷ []
 unfoldable pub text_of_date : CivilDate → List ℕ
 text_of_date d = last_digits 4 d.year ++ codes "-" ++ last_digits 2 d.month ++ codes "-" ++ last_digits 2 d.day
 
--- `HH:MM:SS`, of a second of the day
-unfoldable pub text_of_time : ℕ → List ℕ
-text_of_time second =
-    last_digits 2 (second / 3600) ++ codes ":" ++ last_digits 2 (second / 60 % 60) ++ codes ":" ++ last_digits 2 (second % 60)
+-- `HH:MM:SS` of a second of the day, with this text for each colon
+unfoldable pub text_of_time : List ℕ → ℕ → List ℕ
+text_of_time colon second =
+    last_digits 2 (second / 3600) ++ colon ++ last_digits 2 (second / 60 % 60) ++ colon ++ last_digits 2 (second % 60)
 
--- `YYYY-MM-DDTHH:MM:SS.fffffffZ`, of a number of ticks since 1601-01-01T00:00:00Z, ten million in a second
+-- `YYYY-MM-DDTHH:MM:SS.fffffffZ`, with this text for each colon, of a number of ticks since 1601-01-01T00:00:00Z, ten
+-- million in a second
+unfoldable pub moment_with : List ℕ → ℕ → List ℕ
+moment_with colon tick =
+    text_of_date (date_after (tick / 864_000_000_000)) ++ codes "T" ++ text_of_time colon (tick / 10_000_000 % 86_400) ++ codes "." ++ last_digits 7 (tick % 10_000_000) ++ codes "Z"
+
+-- the text of a moment
 unfoldable pub text_of_moment : ℕ → List ℕ
-text_of_moment tick =
-    text_of_date (date_after (tick / 864_000_000_000)) ++ codes "T" ++ text_of_time (tick / 10_000_000 % 86_400) ++ codes "." ++ last_digits 7 (tick % 10_000_000) ++ codes "Z"
+text_of_moment tick = moment_with (codes ":") tick
 
--- `%3A` for a colon
-unfoldable pub escape_colon : ℕ → List ℕ
-escape_colon c = if c == 58 then codes "%3A" else c ∷ []
-
--- `W/"datetime'`, the moment with its colons escaped, and `'"`
+-- `W/"datetime'`, the moment with `%3A` for each colon, and `'"`
 unfoldable pub text_of_etag : ℕ → List ℕ
-text_of_etag tick = codes "W/\"datetime'" ++ flat_map escape_colon (text_of_moment tick) ++ codes "'\""
+text_of_etag tick = codes "W/\"datetime'" ++ moment_with (codes "%3A") tick ++ codes "'\""

@@ -1,4 +1,12 @@
-use crate::Property;
+ghost use Rattle.std.specs.Prelude.{◌≡◌, ◌≢◌, ◌≤◌, ◌<◌, List, length, slice_index_or, All, AllPairs, IfOk, IsFalse, MatchOption, Some, None};
+ghost use Rattle.std.specs.List.Sorted.{IsPermutation};
+ghost use Rattle.std.specs.Option.{option_copied};
+ghost use Rattle.tab_edm.specs.Values.{is_reserved, IsInTime};
+ghost use Rattle.tab_edm.specs.Entities.{IsEntity, IsRising, refused, first_refusal, entity_size, made, value_of};
+
+use crate::values::Fault;
+use crate::{Memory, Property, Value};
+use std::alloc::Global;
 use std::marker::Model;
 
 /// Why properties make no entity.
@@ -24,15 +32,167 @@ pub struct Entity {
     properties: Vec<Property>,
     pk_units: usize,
     rk_units: usize,
+    size: u64,
 }
 
 impl Model for Entity {
-    ghost use Rattle.std.specs.Prelude.{vec_items};
-    ghost use Rattle.tab_edm.specs.Entities.{EntityView, IsEntity};
+    ghost use Rattle.std.specs.Prelude.{◌≡◌, vec_items};
+    ghost use Rattle.tab_edm.specs.Entities.{EntityView, IsEntity, entity_size};
 
     ghost Value = { EntityView };
 
     ghost view = { λ entity. record { properties = entity.properties.items; pk_units = entity.pk_units; rk_units = entity.rk_units } };
 
-    ghost invariant = { λ entity. IsEntity entity.pk_units entity.rk_units entity.properties.items };
+    ghost invariant = { λ entity. IsEntity entity.pk_units entity.rk_units entity.properties.items
+        × (entity.size ≡ entity_size entity.pk_units entity.rk_units entity.properties.items) };
+}
+
+impl Entity {
+    /// The entity of a row whose keys have these numbers of UTF-16 code units.
+    pub fn new(
+        pk_units: usize,
+        rk_units: usize,
+        properties: Vec<Property>,
+    ) -> Result<Entity, EdmRefused>
+        requires pk_short { pk_units ≤ 1024 }
+        requires rk_short { rk_units ≤ 1024 }
+        requires distinct { AllPairs (λ a b. a.name ≢ b.name) properties.items }
+        requires unreserved { All (λ p. IsFalse (is_reserved p.name)) properties.items }
+        requires in_time { All (λ p. IsInTime p.value) properties.items }
+        ensures sorted { (sorted : List Property) × IsPermutation properties.items sorted × IsRising sorted × (result ≡ made pk_units rk_units sorted) }
+        ensures exact { (sorted : List Property) → IsPermutation properties.items sorted → IsRising sorted → result ≡ made pk_units rk_units sorted }
+    {
+        Entity::from_sorted(pk_units, rk_units, sorted_by_name(properties))
+    }
+
+    /// The value of the property with this name.
+    pub fn get(&self, name: &str) -> Option<&Value>
+        ensures { option_copied result ≡ value_of name.now self.now.properties }
+    {
+        match self
+            .properties
+            .binary_search_by(|p| p.name.as_str().cmp(name))
+        {
+            Ok(index) => Some(&self.properties[index].value),
+            Err(_) => None,
+        }
+    }
+
+    /// The bytes that it counts for, its keys among them.
+    pub fn size(&self) -> u64
+        ensures { result ≡ entity_size self.now.pk_units self.now.rk_units self.now.properties }
+    {
+        self.size
+    }
+
+    pub fn properties(&self) -> &[Property]
+        ensures properties { result.now ≡ self.now.properties }
+        ensures entity { IsEntity self.now.pk_units self.now.rk_units self.now.properties }
+    {
+        self.properties.as_slice()
+    }
+
+    pub fn pk_units(&self) -> usize
+        ensures { result ≡ self.now.pk_units }
+    {
+        self.pk_units
+    }
+
+    pub fn rk_units(&self) -> usize
+        ensures { result ≡ self.now.rk_units }
+    {
+        self.rk_units
+    }
+
+    pub fn try_copy(&self, alloc: Global) -> Result<Entity, Memory>
+        ensures { IfOk result (λ copy. copy ≡ self.now) }
+    {
+        let mut properties = Vec::with_capacity(alloc, self.properties.len())?;
+        for property in &self.properties {
+            properties.push(property.try_copy(alloc)?)?;
+        }
+        Ok(Entity {
+            properties,
+            pk_units: self.pk_units,
+            rk_units: self.rk_units,
+            size: self.size,
+        })
+    }
+
+    fn from_sorted(
+        pk_units: usize,
+        rk_units: usize,
+        mut properties: Vec<Property>,
+    ) -> Result<Entity, EdmRefused>
+        requires pk_short { pk_units ≤ 1024 }
+        requires rk_short { rk_units ≤ 1024 }
+        requires rising { IsRising properties.items }
+        requires unreserved { All (λ p. IsFalse (is_reserved p.name)) properties.items }
+        requires in_time { All (λ p. IsInTime p.value) properties.items }
+        ensures { result ≡ made pk_units rk_units properties.items }
+    {
+        if let Some((index, fault)) = first_fault(&properties) {
+            return Err(refused(fault, properties.swap_remove(index)));
+        }
+        if properties.len() > 252 {
+            return Err(EdmRefused::TooMany);
+        }
+        let size = entity_size(pk_units, rk_units, &properties);
+        if size > 1_048_576 {
+            return Err(EdmRefused::TooLarge);
+        }
+        Ok(Entity {
+            properties,
+            pk_units,
+            rk_units,
+            size,
+        })
+    }
+}
+
+fn sorted_by_name(mut properties: Vec<Property>) -> Vec<Property>
+    requires { AllPairs (λ a b. a.name ≢ b.name) properties.items }
+    ensures permutation { IsPermutation properties.items result.items }
+    ensures rising { IsRising result.items }
+{
+    properties.sort_unstable_by(|a, b| a.name.as_str().cmp(b.name.as_str()));
+    properties
+}
+
+/// The first property with a fault.
+fn first_fault(properties: &[Property]) -> Option<(usize, Fault)>
+    ensures { MatchOption result (first_refusal properties.now ≡ None)
+        (λ found. (found.0 < length properties.now)
+        × ((d : Property) → first_refusal properties.now ≡ Some (refused found.1 (slice_index_or properties.now found.0 d)))) }
+{
+    for (index, property) in properties.iter().enumerate() {
+        if let Some(fault) = property.fault() {
+            return Some((index, fault));
+        }
+    }
+    None
+}
+
+fn refused(fault: Fault, property: Property) -> EdmRefused
+    ensures { result ≡ refused fault property }
+{
+    match fault {
+        Fault::NameInvalid => EdmRefused::NameInvalid(property),
+        Fault::NameTooLong => EdmRefused::NameTooLong(property),
+        Fault::ValueTooLarge => EdmRefused::ValueTooLarge(property),
+    }
+}
+
+fn entity_size(pk_units: usize, rk_units: usize, properties: &[Property]) -> u64
+    requires pk_short { pk_units ≤ 1024 }
+    requires rk_short { rk_units ≤ 1024 }
+    requires few { length properties.now ≤ 252 }
+    requires allowed { first_refusal properties.now ≡ None }
+    ensures { result ≡ entity_size pk_units rk_units properties.now }
+{
+    let mut size = 4 + 2 * (pk_units + rk_units) as u64;
+    for property in properties {
+        size += property.size();
+    }
+    size
 }

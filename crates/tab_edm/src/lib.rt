@@ -2,16 +2,31 @@
 #![tactic(auto)]
 
 mod entities;
+mod moments;
 mod texts;
 mod values;
 
 pub use entities::{EdmRefused, Entity};
+pub use moments::{etag_text, moment_text};
+use std::alloc::{AllocError, AllocFailed};
 pub use texts::{BytesValue, TextValue};
 pub use values::{Property, Value};
 
 /// A refusal by want of memory.
 #[derive(Clone, Copy, Debug, PartialEq, Eq)]
 pub struct Memory;
+
+impl From<AllocError> for Memory {
+    fn from(_error: AllocError) -> Memory {
+        Memory
+    }
+}
+
+impl<T: Drop> From<AllocFailed<T>> for Memory {
+    fn from(_error: AllocFailed<T>) -> Memory {
+        Memory
+    }
+}
 
 /// The last tick, 9999-12-31T23:59:59.9999999Z. A tick is 100 ns since 1601-01-01T00:00:00Z.
 pub const GREATEST: u64 = 2_650_467_743_999_999_999;

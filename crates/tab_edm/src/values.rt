@@ -1,4 +1,14 @@
-use crate::{BytesValue, TextValue};
+ghost use Rattle.std.specs.Prelude.{◌≡◌, ◌≤◌, IfOk, IsTrue, None, chars};
+ghost use Rattle.std.specs.Option.{option_map};
+ghost use Rattle.std.specs.List.{list_all};
+ghost use Rattle.unicode_ident.specs.Ident.{is_xid_continue};
+ghost use Rattle.tab_edm.specs.Values.{begins_name, is_valid_name, is_small, value_size, property_size};
+ghost use Rattle.tab_edm.specs.Entities.{property_refusal, refused};
+
+use crate::texts::{char_count, unit_count};
+use crate::{BytesValue, Memory, TextValue};
+use std::alloc::Global;
+use unicode_ident::{is_xid_continue, is_xid_start};
 
 /// The value of a property, in one of the seven kinds that are served.
 #[derive(Debug, Drop)]
@@ -19,9 +29,123 @@ pub enum Value {
     Bytes(BytesValue),
 }
 
+impl Value {
+    pub fn try_copy(&self, alloc: Global) -> Result<Value, Memory>
+        ensures { IfOk result (λ copy. copy ≡ self.now) }
+    {
+        Ok(match self {
+            Value::Text(text) => Value::Text(text.try_copy(alloc)?),
+            Value::Flag(flag) => Value::Flag(*flag),
+            Value::Int32(number) => Value::Int32(*number),
+            Value::Int64(number) => Value::Int64(*number),
+            Value::Moment(tick) => Value::Moment(*tick),
+            Value::Guid(guid) => Value::Guid(*guid),
+            Value::Bytes(bytes) => Value::Bytes(bytes.try_copy(alloc)?),
+        })
+    }
+
+    /// Whether it is within the limit of its kind.
+    #[tactic(auto, unfolding(crate::specs::Values::is_small))]
+    fn is_small(&self) -> bool
+        ensures { result ≡ is_small self.now }
+    {
+        match self {
+            Value::Text(text) => unit_count(text.as_str()) <= 32_768,
+            Value::Bytes(bytes) => bytes.as_slice().len() <= 65_536,
+            _ => true,
+        }
+    }
+
+    /// The bytes that it counts for in an entity's size.
+    #[tactic(auto, unfolding(crate::specs::Values::value_size, crate::specs::Values::is_small))]
+    fn size(&self) -> u64
+        requires { IsTrue (is_small self.now) }
+        ensures value { result ≡ value_size self.now }
+        ensures bound { result ≤ 65_540 }
+    {
+        match self {
+            Value::Text(text) => 4 + 2 * unit_count(text.as_str()) as u64,
+            Value::Flag(_) => 1,
+            Value::Int32(_) => 4,
+            Value::Int64(_) | Value::Moment(_) => 8,
+            Value::Guid(_) => 16,
+            Value::Bytes(bytes) => 4 + bytes.as_slice().len() as u64,
+        }
+    }
+}
+
 /// A property of an entity.
 #[derive(Debug, Drop)]
 pub struct Property {
     pub name: TextValue,
     pub value: Value,
+}
+
+impl Property {
+    pub fn try_copy(&self, alloc: Global) -> Result<Property, Memory>
+        ensures { IfOk result (λ copy. copy ≡ self.now) }
+    {
+        Ok(Property {
+            name: self.name.try_copy(alloc)?,
+            value: self.value.try_copy(alloc)?,
+        })
+    }
+
+    /// The first limit that it breaks.
+    #[tactic(auto, unfolding(crate::specs::Entities::property_refusal))]
+    pub(crate) fn fault(&self) -> Option<Fault>
+        ensures { property_refusal self.now ≡ option_map (λ fault. refused fault self.now) result }
+    {
+        let name = self.name.as_str();
+        if !is_identifier(name) {
+            Some(Fault::NameInvalid)
+        } else if char_count(name) > 255 {
+            Some(Fault::NameTooLong)
+        } else if !self.value.is_small() {
+            Some(Fault::ValueTooLarge)
+        } else {
+            None
+        }
+    }
+
+    /// The bytes that it counts for in an entity's size.
+    #[tactic(auto, using(crate::proofs::Sizes::within_limits, crate::proofs::Sizes::units_at_most), unfolding(crate::specs::Values::property_size))]
+    pub(crate) fn size(&self) -> u64
+        requires { property_refusal self.now ≡ None }
+        ensures value { result ≡ property_size self.now }
+        ensures bound { result ≤ 66_568 }
+    {
+        8 + 2 * unit_count(self.name.as_str()) as u64 + self.value.size()
+    }
+}
+
+/// What may be wrong with one property.
+#[derive(Clone, Copy, Debug, PartialEq, Eq)]
+pub enum Fault {
+    NameInvalid,
+    NameTooLong,
+    ValueTooLarge,
+}
+
+/// Whether a name is an identifier of Unicode Standard Annex 31, or begins with `_` and goes on as one.
+fn is_identifier(name: &str) -> bool
+    ensures { result ≡ is_valid_name name.now }
+{
+    let mut chars = name.chars();
+    match chars.next() {
+        Some(first) => begins_name(first) && continues_name(chars.as_str()),
+        None => false,
+    }
+}
+
+fn begins_name(ch: char) -> bool
+    ensures { result ≡ begins_name ch }
+{
+    is_xid_start(ch) || ch == '_'
+}
+
+fn continues_name(rest: &str) -> bool
+    ensures { result ≡ list_all is_xid_continue (chars rest.now) }
+{
+    rest.chars().all(is_xid_continue)
 }

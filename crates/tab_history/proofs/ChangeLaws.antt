@@ -7,10 +7,10 @@ use Rattle.std.specs.Ordering.{is_eq}
 use Rattle.tab_keys.specs.Order.{key_cmp, same_key}
 use Rattle.tab_keys.specs.declared.keys.Key.{Key}
 use Rattle.tab_keys.specs.Spans.{has}
-use Rattle.tab_keys.proofs.OrderLaws.{key_cmp_total}
+use Rattle.tab_keys.specs.TotalOrders.{key_cmp_total}
 use Rattle.tab_edm.specs.Entities.{EntityView}
 use Rattle.tab_edm.specs.declared.TheConstants.{GREATEST}
-use Rattle.tab_history.specs.Rows.{RowView, row_at, with_row}
+use Rattle.tab_rows.specs.Rows.{RowView, row_at, with_row}
 use Rattle.tab_history.specs.Groups.{ItemView, item_key}
 use Rattle.tab_history.specs.World.{Floors, floor_of, raised, MayHaveTick, IsNextTick}
 use Rattle.tab_history.specs.Changes.{group_outcome}

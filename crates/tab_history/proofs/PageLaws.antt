@@ -17,7 +17,7 @@ use Rattle.tab_keys.proofs.Units.{units_of-nil}
 use Rattle.tab_keys.specs.declared.keys.Key.{Key}
 use Rattle.tab_keys.specs.declared.bounds.Bound.{Bound}
 use Rattle.tab_keys.specs.declared.bounds.Bound.TheVariants.{At, End}
-use Rattle.tab_history.specs.Rows.{RowView}
+use Rattle.tab_rows.specs.Rows.{RowView}
 use Rattle.tab_history.specs.Pages.{start_key, end_above, is_listed, matches, prefix_length, most_looked_at, next_of, page_up_to, page_below, page_of}
 use Rattle.tab_history.specs.declared.pages.Options.{Options}
 use Rattle.tab_history.specs.declared.pages.Page.{Page}

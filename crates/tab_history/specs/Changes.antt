@@ -2,7 +2,7 @@
 use Rattle.std.specs.Prelude.{◌≡◌, ℕ, ◌+◌, List, [], ◌∷◌, map, Option, Some, None, Result, Ok, Err}
 use Rattle.tab_keys.specs.declared.keys.Key.{Key}
 use Rattle.tab_edm.specs.Entities.{EntityView}
-use Rattle.tab_history.specs.Rows.{RowView, row_at, with_row, without_row}
+use Rattle.tab_rows.specs.Rows.{RowView, row_at, with_row, without_row}
 use Rattle.tab_history.specs.Groups.{ItemView, item_key}
 use Rattle.tab_history.specs.declared.groups.Op.{Op}
 use Rattle.tab_history.specs.declared.groups.Op.TheVariants.{Insert}

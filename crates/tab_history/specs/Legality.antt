@@ -4,7 +4,7 @@ use Rattle.std.specs.Result.{result_unwrap_or}
 use Rattle.tab_keys.specs.Order.{bound_lt}
 use Rattle.tab_keys.specs.declared.bounds.Bound.{Bound}
 use Rattle.tab_keys.specs.declared.bounds.Bound.TheVariants.{At}
-use Rattle.tab_history.specs.Rows.{RowView}
+use Rattle.tab_rows.specs.Rows.{RowView}
 use Rattle.tab_history.specs.Groups.{ItemView}
 use Rattle.tab_history.specs.World.{World, table_of, raised, MayHaveTick}
 use Rattle.tab_history.specs.Changes.{group_outcome, group_keys}

@@ -1,4 +1,3 @@
-pub mod Rows
 pub mod Groups
 pub mod Pages
 pub mod World

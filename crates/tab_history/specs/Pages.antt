@@ -4,7 +4,7 @@ use Rattle.tab_keys.specs.Order.{key_lt, is_before, bound_lt}
 use Rattle.tab_keys.specs.declared.keys.Key.{Key}
 use Rattle.tab_keys.specs.declared.bounds.Bound.{Bound}
 use Rattle.tab_keys.specs.declared.bounds.Bound.TheVariants.{At, End}
-use Rattle.tab_history.specs.Rows.{RowView}
+use Rattle.tab_rows.specs.Rows.{RowView}
 use Rattle.tab_history.specs.declared.pages.Options.{Options}
 use Rattle.tab_history.specs.declared.pages.Page.{Page}
 

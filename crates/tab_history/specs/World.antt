@@ -6,7 +6,7 @@ use Rattle.tab_keys.specs.TableNames.{folded}
 use Rattle.tab_keys.specs.Spans.{Interval, has}
 use Rattle.tab_keys.specs.declared.keys.Key.{Key}
 use Rattle.tab_edm.specs.declared.TheConstants.{GREATEST}
-use Rattle.tab_history.specs.Rows.{RowView, AreRising}
+use Rattle.tab_rows.specs.Rows.{RowView, AreRising}
 
 -- a table: its name as it was spelled, and its number
 pub record Named : Type 0 where

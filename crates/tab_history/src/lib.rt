@@ -6,10 +6,9 @@ mod entries;
 mod exchanges;
 mod groups;
 mod pages;
-mod rows;
 
 pub use entries::{Bounds, Denied, Doubt, Entry, History};
 pub use exchanges::{Ask, Reply};
 pub use groups::{Group, Item, Op, OpRefused};
 pub use pages::{Names, Options, Page, PageRows, Select};
-pub use rows::Row;
+pub use tab_rows::Row;

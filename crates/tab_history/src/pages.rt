@@ -55,7 +55,7 @@ pub struct PageRows {
 
 impl Model for PageRows {
     ghost use Rattle.std.specs.Prelude.{List, vec_items};
-    ghost use Rattle.tab_history.specs.Rows.{RowView};
+    ghost use Rattle.tab_rows.specs.Rows.{RowView};
 
     ghost Value = { List RowView };
 

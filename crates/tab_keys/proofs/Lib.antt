@@ -1,4 +1,6 @@
 pub mod Units
 pub mod Names
-pub mod OrderLaws
 pub mod Injective
+pub mod OrderLaws
+pub mod KeyTexts
+pub mod ByteOrder

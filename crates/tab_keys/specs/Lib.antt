@@ -2,3 +2,4 @@ pub mod KeyTexts
 pub mod TableNames
 pub mod Order
 pub mod Spans
+pub mod TotalOrders

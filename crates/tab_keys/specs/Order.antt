@@ -1,5 +1,5 @@
 -- The order of keys and of the bounds between them.
-use Rattle.std.specs.Prelude.{ℕ, List, [], Bool, true, false}
+use Rattle.std.specs.Prelude.{ℕ, ◌+◌, ◌-◌, List, [], Bool, true, false, nat_lt, if◌then◌else◌}
 use Rattle.std.specs.declared.cmp.Ordering.{Ordering}
 use Rattle.std.specs.declared.cmp.Ordering.TheVariants.{Less, Equal, Greater}
 use Rattle.std.specs.Ordering.{ordering_then, is_lt, is_eq, nat_cmp}
@@ -13,6 +13,11 @@ use Rattle.tab_keys.specs.declared.bounds.Bound.TheVariants.{At, End}
 -- two texts unit by unit, where a proper prefix is less
 unfoldable pub text_cmp : List ℕ → List ℕ → Ordering
 text_cmp a b = slice_cmp nat_cmp (units_of a) (units_of b)
+
+-- the place of a byte of UTF-8 among the others by which texts compare as their units do: the bytes that begin a
+-- character from U+E000 to U+FFFF come after those that begin a pair of surrogates
+abbrev pub byte_rank : ℕ → ℕ
+byte_rank b = if nat_lt b 0xEE then b else (if nat_lt b 0xF0 then b + 5 else b - 2)
 
 -- two names without their case, byte by byte
 unfoldable pub name_cmp : List ℕ → List ℕ → Ordering

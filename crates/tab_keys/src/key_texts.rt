@@ -2,10 +2,17 @@ ghost use Rattle.std.specs.Prelude.{◌≡◌, length, IfOk, MatchResult, None};
 ghost use Rattle.std.specs.Option.{unwrap_or};
 ghost use Rattle.std.specs.Str.{chars};
 ghost use Rattle.std.specs.List.{list_any};
+ghost use Rattle.std.specs.Cmp.{partial_equiv_from_equiv, eq_by_cmp_equiv, partial_order_from_total};
+ghost use Rattle.std.specs.Ordering.{eq_by_cmp, as_partial_cmp};
+ghost use Rattle.std.proofs.Common.{refl};
 ghost use Rattle.tab_keys.specs.KeyTexts.{units_of, is_bad_character, key_refusal, IsKeyText};
+ghost use Rattle.tab_keys.specs.Order.{text_cmp};
+ghost use Rattle.tab_keys.specs.TotalOrders.{text_cmp_total};
 
 use crate::Memory;
+use crate::text_order::compare_units;
 use std::alloc::Global;
+use std::cmp::Ordering;
 use std::marker::Model;
 
 /// The most UTF-16 code units that a key text has.
@@ -83,6 +90,44 @@ impl KeyText {
             Ok(text) => Ok(KeyText { text }),
             Err(_) => Err(Memory),
         }
+    }
+}
+
+impl PartialEq for KeyText {
+    ghost eq = { eq_by_cmp text_cmp };
+
+    ghost laws = { partial_equiv_from_equiv (eq_by_cmp_equiv text_cmp_total) };
+
+    fn eq(&self, other: &KeyText) -> bool {
+        self.as_str() == other.as_str()
+    }
+}
+
+impl Eq for KeyText {
+    ghost laws = { eq_by_cmp_equiv text_cmp_total };
+}
+
+impl PartialOrd for KeyText {
+    ghost partial_cmp = { as_partial_cmp text_cmp };
+
+    ghost laws = { partial_order_from_total text_cmp_total };
+
+    fn partial_cmp(&self, other: &KeyText) -> Option<Ordering> {
+        Some(self.cmp(other))
+    }
+}
+
+impl Ord for KeyText {
+    ghost cmp = { text_cmp };
+
+    ghost total = { text_cmp_total };
+
+    ghost matches_partial_cmp = { λ a b. refl };
+
+    ghost matches_eq = { λ a b. refl };
+
+    fn cmp(&self, other: &KeyText) -> Ordering {
+        compare_units(self.as_str(), other.as_str())
     }
 }
 

@@ -7,6 +7,9 @@ mod key_texts;
 mod keys;
 mod spans;
 mod table_names;
+#[cfg(test)]
+mod tests;
+mod text_order;
 
 pub use bounds::Bound;
 pub use key_texts::{KeyRefused, KeyText};

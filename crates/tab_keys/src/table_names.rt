@@ -1,10 +1,16 @@
 ghost use Rattle.std.specs.Prelude.{◌≡◌, length, IfOk, MatchResult, None, bytes_eq, codes, ◌||◌};
 ghost use Rattle.std.specs.Option.{unwrap_or};
 ghost use Rattle.std.specs.List.{list_all};
-ghost use Rattle.tab_keys.specs.TableNames.{folded, is_letter, is_digit, is_well_formed, name_refusal, IsTableName};
+ghost use Rattle.std.specs.Cmp.{partial_equiv_from_equiv, eq_by_cmp_equiv, partial_order_from_total};
+ghost use Rattle.std.specs.Ordering.{eq_by_cmp, as_partial_cmp, is_eq};
+ghost use Rattle.std.proofs.Common.{refl};
+ghost use Rattle.tab_keys.specs.Order.{name_cmp};
+ghost use Rattle.tab_keys.specs.TotalOrders.{name_cmp_total};
+ghost use Rattle.tab_keys.specs.TableNames.{folded, fold_byte, is_letter, is_digit, is_well_formed, name_refusal, IsTableName};
 
 use crate::Memory;
 use std::alloc::Global;
+use std::cmp::Ordering;
 use std::marker::Model;
 
 /// The fewest and the most letters and digits of a name.
@@ -81,6 +87,44 @@ impl TableName {
     }
 }
 
+impl PartialEq for TableName {
+    ghost eq = { eq_by_cmp name_cmp };
+
+    ghost laws = { partial_equiv_from_equiv (eq_by_cmp_equiv name_cmp_total) };
+
+    fn eq(&self, other: &TableName) -> bool {
+        is_same_folded(self.as_str(), other.as_str())
+    }
+}
+
+impl Eq for TableName {
+    ghost laws = { eq_by_cmp_equiv name_cmp_total };
+}
+
+impl PartialOrd for TableName {
+    ghost partial_cmp = { as_partial_cmp name_cmp };
+
+    ghost laws = { partial_order_from_total name_cmp_total };
+
+    fn partial_cmp(&self, other: &TableName) -> Option<Ordering> {
+        Some(self.cmp(other))
+    }
+}
+
+impl Ord for TableName {
+    ghost cmp = { name_cmp };
+
+    ghost total = { name_cmp_total };
+
+    ghost matches_partial_cmp = { λ a b. refl };
+
+    ghost matches_eq = { λ a b. refl };
+
+    fn cmp(&self, other: &TableName) -> Ordering {
+        compare_folded(self.as_str(), other.as_str())
+    }
+}
+
 #[tactic(auto, unfolding(crate::specs::TableNames::is_well_formed))]
 fn is_well_formed(name: &[u8]) -> bool
     ensures { result ≡ is_well_formed name.now }
@@ -113,4 +157,22 @@ fn is_reserved(name: &str) -> bool
     ensures { result ≡ bytes_eq (folded name.now) (codes "tables") }
 {
     name.eq_ignore_ascii_case(RESERVED)
+}
+
+fn is_same_folded(a: &str, b: &str) -> bool
+    ensures { result ≡ is_eq (name_cmp a.now b.now) }
+{
+    a.eq_ignore_ascii_case(b)
+}
+
+fn compare_folded(a: &str, b: &str) -> Ordering
+    ensures { result ≡ name_cmp a.now b.now }
+{
+    a.bytes().map(fold_byte).cmp(b.bytes().map(fold_byte))
+}
+
+fn fold_byte(b: u8) -> u8
+    ensures { result ≡ fold_byte b }
+{
+    b.to_ascii_lowercase()
 }

@@ -1,3 +1,5 @@
 pub mod Faults
 pub mod Sides
 pub mod Transfers
+pub mod Calls
+pub mod Disks

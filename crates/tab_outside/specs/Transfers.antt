@@ -1,5 +1,5 @@
 -- What calls of many pieces gave or took in all.
-use Rattle.std.specs.Prelude.{◌≡◌, ℕ, ◌≤◌, List, [], ◌∷◌, ◌++◌, length, take, Option, None, Some, ⊤}
+use Rattle.std.specs.Prelude.{◌≡◌, ℕ, ◌<◌, List, [], ◌∷◌, ◌++◌, length, take, Option, None, Some, ⊤}
 use Rattle.std.specs.Io.KnownBytes.{Keeps, Appends, Consumes, IsAtEnd}
 
 -- a read of one byte gave it, or found the end of input
@@ -10,7 +10,7 @@ ReadsByte old new None = IsAtEnd new × Keeps old new
 -- the first bytes of the piece were taken
 pub record TookFront (old new : Option (List ℕ)) (piece : List ℕ) : Type 0 where
   pub count : ℕ
-  pub within : count ≤ length piece
+  pub short : count < length piece
   pub taken : Appends old new (take count piece)
 
 -- bytes went from what was left behind what was there

@@ -1,4 +1,7 @@
-ghost use Rattle.std.specs.Prelude.{◌≡◌, min, length, take, drop};
+ghost use Rattle.std.specs.Prelude.{◌≡◌, ◌+◌, ◌-◌, ◌^◌, ◌≤◌, ◌++◌, min, length, replicate, take, drop, OnOk, OnErr};
+ghost use Rattle.tab_outside.specs.Disks.{overwritten};
+
+use crate::Memory;
 
 /// Copies as many of the first bytes as fit into the front of the buffer and answers how many.
 pub fn copy_front(bytes: &[u8], buf: &mut [u8]) -> usize
@@ -9,4 +12,34 @@ pub fn copy_front(bytes: &[u8], buf: &mut [u8]) -> usize
     let count = bytes.len().min(buf.len());
     buf[..count].copy_from_slice(&bytes[..count]);
     count
+}
+
+/// Writes the piece at a place among the bytes, with zeros before it where they end sooner.
+pub fn overwrite(bytes: &mut Vec<u8>, at: usize, piece: &[u8]) -> Result<(), Memory>
+    requires { at + length piece.now ≤ 2 ^ 62 }
+    ensures written { OnOk result (bytes.new.items ≡ overwritten bytes.old.items at piece.now) }
+    ensures kept { OnErr result (bytes.new.items ≡ bytes.old.items) }
+{
+    grow_to(bytes, at + piece.len())?;
+    replace(bytes, at, piece);
+    Ok(())
+}
+
+/// Puts the piece in the place of as many bytes.
+fn replace(bytes: &mut [u8], at: usize, piece: &[u8])
+    requires { at + length piece.now ≤ length bytes.old }
+    ensures { bytes.new ≡ take at bytes.old ++ piece.now ++ drop (at + length piece.now) bytes.old }
+{
+    bytes[at..at + piece.len()].copy_from_slice(piece);
+}
+
+/// Fills the bytes up with zeros to a size, where they are fewer.
+fn grow_to(bytes: &mut Vec<u8>, size: usize) -> Result<(), Memory>
+    ensures grown { OnOk result (bytes.new.items ≡ bytes.old.items ++ replicate (size - length bytes.old.items) 0) }
+    ensures kept { OnErr result (bytes.new.items ≡ bytes.old.items) }
+{
+    if bytes.len() < size && bytes.resize(size, 0).is_err() {
+        return Err(Memory);
+    }
+    Ok(())
 }

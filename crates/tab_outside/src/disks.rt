@@ -1,10 +1,13 @@
-ghost use Rattle.std.specs.Prelude.{◌≡◌, ℕ, ◌≤◌, Bool, false, IfOk, IsFalse, length};
+ghost use Rattle.std.specs.Prelude.{◌≡◌, ℕ, ◌+◌, ◌^◌, ◌<◌, ◌≤◌, ◌↔◌, min, Bool, false, [], length, take, drop, IfOk, OnOk, OnErr, IsErr, IsFalse};
+ghost use Rattle.tab_outside.specs.Calls.{no_calls, IsListed, CountsCall};
+ghost use Rattle.tab_outside.specs.Disks.{overwritten};
 ghost use Rattle.tab_outside.specs.Faults.{HasCause};
 
-use crate::Failed;
-use crate::buffers::copy_front;
+use crate::buffers::{copy_front, overwrite};
 use crate::listed_calls::ListedCalls;
+use crate::{Failed, Memory};
 use std::alloc::Global;
+use std::marker::Model;
 
 /// A row of bytes that outlives the program.
 pub trait Disk {
@@ -64,11 +67,23 @@ pub trait Disk {
         ensures stops { has_stops self.new ≡ has_stops self.old };
 }
 
-/// A disk of plain bytes in memory, of which the listed calls fail.
+/// The furthest that a write may end.
+const FURTHEST_END: u64 = 1 << 62;
+
+/// A disk of plain bytes in memory, of which the listed calls fail. So do a write that ends past 2^62 and one
+/// that finds no memory.
 #[derive(Debug, Drop)]
 pub struct MemDisk {
     bytes: Vec<u8>,
     calls: ListedCalls,
+}
+
+impl Model for MemDisk {
+    ghost use Rattle.tab_outside.specs.Calls.{InMemory};
+
+    ghost Value = { InMemory };
+
+    ghost view = { λ a. record { bytes = a.bytes.items; calls = a.calls } };
 }
 
 impl MemDisk {
@@ -76,6 +91,8 @@ impl MemDisk {
     /// whose numbers are in `fails` fail.
     pub fn new(alloc: Global, fails: Vec<u64>) -> MemDisk
         ensures faults { ⟦<MemDisk as Disk>⟧.faults result ≡ 0 }
+        ensures bytes { result.bytes ≡ [] }
+        ensures calls { result.calls ≡ no_calls fails.items }
     {
         MemDisk {
             bytes: Vec::new(alloc),
@@ -89,41 +106,83 @@ impl Disk for MemDisk {
 
     ghost has_stops = { λ _. false };
 
-    fn len(&mut self) -> Result<u64, Failed> {
+    fn len(&mut self) -> Result<u64, Failed>
+        ensures length { IfOk result (λ n. n ≡ length self.old.bytes) }
+        ensures kept { self.new.bytes ≡ self.old.bytes }
+        ensures listed { IsErr result ↔ IsListed self.old.calls }
+        ensures counted { CountsCall self.old.calls self.new.calls }
+        ensures cause { HasCause self.old.calls.faults self.new.calls.faults result }
+    {
         self.calls.begin()?;
         Ok(self.bytes.len() as u64)
     }
 
-    fn read_at(&mut self, at: u64, buf: &mut [u8]) -> Result<usize, Failed> {
+    fn read_at(&mut self, at: u64, buf: &mut [u8]) -> Result<usize, Failed>
+        ensures count { IfOk result (λ n. n ≡ min (length (drop at self.old.bytes)) (length buf.old)) }
+        ensures read { IfOk result (λ n. take n buf.new ≡ take n (drop at self.old.bytes)) }
+        ensures rest { IfOk result (λ n. drop n buf.new ≡ drop n buf.old) }
+        ensures kept { self.new.bytes ≡ self.old.bytes }
+        ensures listed { IsErr result ↔ IsListed self.old.calls }
+        ensures counted { CountsCall self.old.calls self.new.calls }
+        ensures cause { HasCause self.old.calls.faults self.new.calls.faults result }
+    {
         self.calls.begin()?;
-        let Ok(at) = usize::try_from(at) else {
-            return Ok(0)
-        };
-        Ok(copy_front(self.bytes.get(at..).unwrap_or_default(), buf))
+        let rest = self.bytes.get(at as usize..).unwrap_or_default();
+        Ok(copy_front(rest, buf))
     }
 
-    fn write_at(&mut self, at: u64, piece: &[u8]) -> Result<(), Failed> {
+    fn write_at(&mut self, at: u64, piece: &[u8]) -> Result<(), Failed>
+        ensures written { OnOk result (self.new.bytes ≡ overwritten self.old.bytes at piece.now) }
+        ensures kept { OnErr result (self.new.bytes ≡ self.old.bytes) }
+        ensures far { 2 ^ 62 < at + length piece.now → IsErr result }
+        ensures listed { IsListed self.old.calls → IsErr result }
+        ensures counted { CountsCall self.old.calls self.new.calls }
+        ensures cause { HasCause self.old.calls.faults self.new.calls.faults result }
+    {
         self.calls.begin()?;
-        Ok(())
+        let end = at.saturating_add(piece.len() as u64);
+        if end > FURTHEST_END {
+            return Err(self.calls.fault());
+        }
+        match overwrite(&mut self.bytes, at as usize, piece) {
+            Ok(()) => Ok(()),
+            Err(Memory) => Err(self.calls.fault()),
+        }
     }
 
-    fn sync(&mut self) -> Result<(), Failed> {
+    fn sync(&mut self) -> Result<(), Failed>
+        ensures kept { self.new.bytes ≡ self.old.bytes }
+        ensures listed { IsErr result ↔ IsListed self.old.calls }
+        ensures counted { CountsCall self.old.calls self.new.calls }
+        ensures cause { HasCause self.old.calls.faults self.new.calls.faults result }
+    {
         self.calls.begin()
     }
 
-    fn arm_fail(&mut self, after: u64) -> bool {
+    fn arm_fail(&mut self, _after: u64) -> bool
+        ensures none { result ≡ false }
+        ensures unchanged { self.new ≡ self.old }
+    {
         false
     }
 
-    fn arm_stop(&mut self, after: u64) -> bool {
+    fn arm_stop(&mut self, _after: u64) -> bool
+        ensures none { result ≡ false }
+        ensures unchanged { self.new ≡ self.old }
+    {
         false
     }
 
-    fn stopped(&self) -> bool {
+    fn stopped(&self) -> bool
+        ensures never { result ≡ false }
+    {
         false
     }
 
-    fn restart(&mut self, pick: u64) -> bool {
+    fn restart(&mut self, _pick: u64) -> bool
+        ensures none { result ≡ false }
+        ensures unchanged { self.new ≡ self.old }
+    {
         false
     }
 }

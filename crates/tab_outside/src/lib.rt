@@ -9,6 +9,8 @@ mod listed_calls;
 mod pieces;
 mod sinks;
 mod sources;
+#[cfg(test)]
+mod tests;
 
 pub use clocks::{Clock, SetClock};
 pub use disks::{Disk, MemDisk};

@@ -1,19 +1,29 @@
-ghost use Rattle.std.specs.Prelude.{◌≡◌, ℕ, ◌+◌, ◌-◌, ◌^◌, ◌≤◌, min, ◌↔◌, Contains, IsErr};
+ghost use Rattle.std.specs.Prelude.{◌≡◌, ◌≤◌, ◌↔◌, IsErr};
+ghost use Rattle.tab_outside.specs.Calls.{no_calls, IsListed, CountsCall};
 ghost use Rattle.tab_outside.specs.Faults.{HasCause, Rose};
 
 use crate::Failed;
+use std::marker::Model;
 
 /// Counts calls from 1, and makes those whose numbers are listed fail.
 #[derive(Debug, Drop)]
 pub struct ListedCalls {
-    pub made: u64,
-    pub fails: Vec<u64>,
-    pub faults: u64,
+    made: u64,
+    fails: Vec<u64>,
+    faults: u64,
+}
+
+impl Model for ListedCalls {
+    ghost use Rattle.tab_outside.specs.Calls.{Calls};
+
+    ghost Value = { Calls };
+
+    ghost view = { λ a. record { made = a.made; fails = a.fails.items; faults = a.faults } };
 }
 
 impl ListedCalls {
     pub fn new(fails: Vec<u64>) -> ListedCalls
-        ensures { result ≡ record { made = 0; fails = fails; faults = 0 } }
+        ensures { result ≡ no_calls fails.items }
     {
         ListedCalls {
             made: 0,
@@ -22,11 +32,10 @@ impl ListedCalls {
         }
     }
 
-    /// Counts one call, and the fault where the call is listed. The number of calls ends at u64::MAX.
+    /// Counts one call, and a fault where the call is listed.
     pub fn begin(&mut self) -> Result<(), Failed>
-        ensures made { self.new.made ≡ min (self.old.made + 1) (2 ^ 64 - 1) }
-        ensures listed { IsErr result ↔ Contains self.old.fails.items self.new.made }
-        ensures fails { self.new.fails ≡ self.old.fails }
+        ensures counted { CountsCall self.old self.new }
+        ensures listed { IsErr result ↔ IsListed self.old }
         ensures cause { HasCause self.old.faults self.new.faults result }
     {
         self.made = self.made.saturating_add(1);

@@ -1,11 +1,13 @@
-ghost use Rattle.std.specs.Prelude.{◌≡◌, ℕ, ◌<◌, ◌≤◌, List, [], length, Option, Some, IfOk};
+ghost use Rattle.std.specs.Prelude.{◌≡◌, ℕ, ◌<◌, ◌≤◌, List, [], length, Option, Some, IfOk, IsErr};
 ghost use Rattle.std.specs.Io.KnownBytes.{WriteAppends};
+ghost use Rattle.tab_outside.specs.Calls.{no_calls, IsListed, CountsCall};
 ghost use Rattle.tab_outside.specs.Faults.{HasCause, Rose};
 ghost use Rattle.tab_outside.specs.Sides.{Side, nothing_beside};
 
 use crate::Failed;
 use crate::listed_calls::ListedCalls;
 use std::alloc::Global;
+use std::marker::Model;
 
 /// Where bytes are written to, in order.
 pub trait Sink {
@@ -35,11 +37,20 @@ pub struct MemSink {
     calls: ListedCalls,
 }
 
+impl Model for MemSink {
+    ghost use Rattle.tab_outside.specs.Calls.{InMemory};
+
+    ghost Value = { InMemory };
+
+    ghost view = { λ a. record { bytes = a.bytes.items; calls = a.calls } };
+}
+
 impl MemSink {
     /// A sink that has taken nothing. The writes whose numbers are in `fails`, counted from 1, fail.
     pub fn new(alloc: Global, fails: Vec<u64>) -> MemSink
         ensures taken { ⟦<MemSink as Sink>⟧.taken result ≡ Some [] }
         ensures faults { ⟦<MemSink as Sink>⟧.faults result ≡ 0 }
+        ensures calls { result.calls ≡ no_calls fails.items }
     {
         MemSink {
             bytes: Vec::new(alloc),
@@ -56,13 +67,19 @@ impl MemSink {
 }
 
 impl Sink for MemSink {
-    ghost taken = { λ sink. Some sink.bytes.items };
+    ghost taken = { λ sink. Some sink.bytes };
 
     ghost faults = { λ sink. sink.calls.faults };
 
     ghost beside = { λ _. nothing_beside };
 
-    fn write(&mut self, piece: &[u8]) -> Result<usize, Failed> {
+    fn write(&mut self, piece: &[u8]) -> Result<usize, Failed>
+        ensures count { IfOk result (λ n. n ≡ length piece.now) }
+        ensures bytes { WriteAppends (Some self.old.bytes) (Some self.new.bytes) result piece.now }
+        ensures listed { IsListed self.old.calls → IsErr result }
+        ensures counted { CountsCall self.old.calls self.new.calls }
+        ensures cause { HasCause self.old.calls.faults self.new.calls.faults result }
+    {
         self.calls.begin()?;
         match self.bytes.extend_from_slice(piece) {
             Ok(()) => Ok(piece.len()),

@@ -1,11 +1,13 @@
-ghost use Rattle.std.specs.Prelude.{◌≡◌, ℕ, ◌<◌, ◌≤◌, List, length, drop, Option, Some, IfOk, vec_len};
+ghost use Rattle.std.specs.Prelude.{◌≡◌, ℕ, ◌<◌, ◌≤◌, ◌↔◌, min, List, length, Option, Some, IfOk, IsErr};
 ghost use Rattle.std.specs.Io.KnownBytes.{ReadConsumes};
+ghost use Rattle.tab_outside.specs.Calls.{no_calls, IsListed, CountsCall};
 ghost use Rattle.tab_outside.specs.Faults.{HasCause};
 ghost use Rattle.tab_outside.specs.Sides.{Side, nothing_beside};
 
 use crate::Failed;
 use crate::buffers::copy_front;
 use crate::listed_calls::ListedCalls;
+use std::marker::Model;
 
 /// Where bytes are read from, in order.
 pub trait Source {
@@ -33,7 +35,17 @@ pub struct MemSource {
     bytes: Vec<u8>,
     at: usize,
     calls: ListedCalls,
-    ghost in_range: { at ≤ vec_len bytes },
+}
+
+impl Model for MemSource {
+    ghost use Rattle.std.specs.Prelude.{◌≤◌, drop, vec_len};
+    ghost use Rattle.tab_outside.specs.Calls.{InMemory};
+
+    ghost Value = { InMemory };
+
+    ghost view = { λ a. record { bytes = drop a.at a.bytes.items; calls = a.calls } };
+
+    ghost invariant = { λ a. a.at ≤ vec_len a.bytes };
 }
 
 impl MemSource {
@@ -41,6 +53,7 @@ impl MemSource {
     pub fn new(bytes: Vec<u8>, fails: Vec<u64>) -> MemSource
         ensures left { ⟦<MemSource as Source>⟧.left result ≡ Some bytes.items }
         ensures faults { ⟦<MemSource as Source>⟧.faults result ≡ 0 }
+        ensures calls { result.calls ≡ no_calls fails.items }
     {
         MemSource {
             bytes,
@@ -51,13 +64,19 @@ impl MemSource {
 }
 
 impl Source for MemSource {
-    ghost left = { λ source. Some (drop source.at source.bytes.items) };
+    ghost left = { λ source. Some source.bytes };
 
     ghost faults = { λ source. source.calls.faults };
 
     ghost beside = { λ _. nothing_beside };
 
-    fn read(&mut self, buf: &mut [u8]) -> Result<usize, Failed> {
+    fn read(&mut self, buf: &mut [u8]) -> Result<usize, Failed>
+        ensures count { IfOk result (λ n. n ≡ min (length self.old.bytes) (length buf.old)) }
+        ensures bytes { ReadConsumes (Some self.old.bytes) (Some self.new.bytes) result buf.new }
+        ensures listed { IsErr result ↔ IsListed self.old.calls }
+        ensures counted { CountsCall self.old.calls self.new.calls }
+        ensures cause { HasCause self.old.calls.faults self.new.calls.faults result }
+    {
         self.calls.begin()?;
         let count = copy_front(&self.bytes[self.at..], buf);
         self.at += count;

@@ -10,3 +10,6 @@ Suits request reply = ⊤
 -- the bytes of the reply to a request
 unfoldable pub reply_text : Request → Reply → List ℕ
 reply_text request reply = []
+
+abbrev pub memory_text : List ℕ
+memory_text = []

@@ -2,5 +2,9 @@
 #![tactic(auto)]
 
 mod forms;
+mod replies;
+mod requests;
 
 pub use forms::{Form, Request};
+pub use replies::{memory_reply, reply_bytes};
+pub use requests::read_request;

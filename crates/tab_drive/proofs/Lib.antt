@@ -1,0 +1,10 @@
+pub mod Decimals
+pub mod Events
+pub mod Exits
+pub mod Fronts
+pub mod LineTexts
+pub mod OpenLines
+pub mod OpenMessages
+pub mod Outcomes
+pub mod Spellings
+pub mod Told

@@ -1,0 +1,72 @@
+-- How bytes are cut at the first line feed, and that a line's text says one thing.
+use Rattle.std.proofs.Common.{◌≡◌, ◌≢◌, ℕ, ◌+◌, ◌^◌, ◌<◌, ◌≤◌, List, [], ◌∷◌, ◌++◌, length, length-append, get_or, drop, ap, refl, sym, ◌∙◌, arith, decimal, codes}
+use Rattle.std.proofs.lemmas.Fmt.{decimal_injective, length-decimal-le}
+use Rattle.tab_drive.specs.Schedule.{line_feed, longest_message}
+use Rattle.tab_drive.specs.Lines.{IsLine, IsInRange, line_text, longest_line}
+use Rattle.tab_drive.specs.declared.lines.Line.{Line}
+use Rattle.tab_drive.specs.declared.lines.Line.TheVariants.{End, Now, Call}
+use Rattle.tab_drive.proofs.Decimals.{IsLine-decimal}
+use Rattle.tab_drive.proofs.OpenLines.{IsLine-append}
+
+heads : (a b : ℕ) (xs ys : List ℕ) → a ∷ xs ≡ b ∷ ys → a ≡ b
+heads a b xs ys is = ap (λ (l : List ℕ). get_or l 0 0) is
+
+-- two lists with different first bytes are not one list
+pub heads_differ : (a b : ℕ) (xs ys : List ℕ) → a ≢ b → a ∷ xs ≢ b ∷ ys
+heads_differ a b xs ys differ is = differ (heads a b xs ys is)
+
+joined : (a b : ℕ) (xs ys : List ℕ) → a ≡ b → xs ≡ ys → a ∷ xs ≡ b ∷ ys
+joined a b xs ys first rest = cc
+
+-- bytes are cut at their first line feed in one way
+pub split_line : (a b x y : List ℕ) → IsLine a → IsLine b → a ++ line_feed ∷ x ≡ b ++ line_feed ∷ y → (a ≡ b) × (x ≡ y)
+split_line [] [] x y a_line b_line is = (refl, ap (drop 1) is)
+split_line [] (c ∷ b) x y a_line b_line is = absurd (b_line.0 (sym (heads _ _ _ _ is)))
+split_line (c ∷ a) [] x y a_line b_line is = absurd (a_line.0 (heads _ _ _ _ is))
+split_line (c ∷ a) (d ∷ b) x y a_line b_line is =
+    let rest = split_line a b x y a_line.1 b_line.1 (ap (drop 1) is) in
+    (joined c d a b (heads _ _ _ _ is) rest.0, rest.1)
+
+-- and at a length in one way
+pub split_length : (a b x y : List ℕ) → length a ≡ length b → a ++ x ≡ b ++ y → (a ≡ b) × (x ≡ y)
+split_length [] [] x y sized is = (refl, is)
+split_length [] (d ∷ b) x y sized is = absurd (omega arith)
+split_length (c ∷ a) [] x y sized is = absurd (omega arith)
+split_length (c ∷ a) (d ∷ b) x y sized is =
+    let rest = split_length a b x y (omega arith) (ap (drop 1) is) in
+    (joined c d a b (heads _ _ _ _ is) rest.0, rest.1)
+
+-- the text of a line has no line feed
+pub IsLine-line_text : (line : Line) → IsInRange line → IsLine (line_text line)
+IsLine-line_text End range = (λ is. omega arith, (λ is. omega arith, (λ is. omega arith, tt)))
+IsLine-line_text (Now moment) range =
+    IsLine-append (codes "now ") _ (λ is. omega arith, (λ is. omega arith, (λ is. omega arith, (λ is. omega arith, tt)))) (IsLine-decimal moment range)
+IsLine-line_text (Call size) range =
+    IsLine-append (codes "call ") _ (λ is. omega arith, (λ is. omega arith, (λ is. omega arith, (λ is. omega arith, (λ is. omega arith, tt))))) (IsLine-decimal size (omega arith))
+
+-- and is short
+pub length-line_text : (line : Line) → IsInRange line → length (line_text line) ≤ longest_line
+length-line_text End range = omega arith
+length-line_text (Now moment) range = omega (arith, length-append (codes "now ") (decimal moment), length-decimal-le 20 moment (omega arith) (omega arith) range)
+length-line_text (Call size) range = omega (arith, length-append (codes "call ") (decimal size), length-decimal-le 20 size (omega arith) (omega arith) (omega arith))
+
+-- one text says one thing
+pub line_text_injective : (a b : Line) → IsInRange a → IsInRange b → line_text a ≡ line_text b → a ≡ b
+line_text_injective End End a_range b_range is = refl
+line_text_injective End (Now moment) a_range b_range is = absurd (heads_differ 101 110 _ _ (λ no. omega arith) is)
+line_text_injective End (Call size) a_range b_range is = absurd (heads_differ 101 99 _ _ (λ no. omega arith) is)
+line_text_injective (Now moment) End a_range b_range is = absurd (heads_differ 110 101 _ _ (λ no. omega arith) is)
+line_text_injective (Now moment) (Now other) a_range b_range is = ap Now (decimal_injective moment other a_range b_range (ap (drop 4) is))
+line_text_injective (Now moment) (Call size) a_range b_range is = absurd (heads_differ 110 99 _ _ (λ no. omega arith) is)
+line_text_injective (Call size) End a_range b_range is = absurd (heads_differ 99 101 _ _ (λ no. omega arith) is)
+line_text_injective (Call size) (Now moment) a_range b_range is = absurd (heads_differ 99 110 _ _ (λ no. omega arith) is)
+line_text_injective (Call size) (Call other) a_range b_range is = ap Call (decimal_injective size other (omega arith) (omega arith) (ap (drop 5) is))
+
+-- a line that calls for a longer message than may be says nothing
+pub call_too_long : (line digits : List ℕ) (size : ℕ) → line ≡ codes "call " ++ digits → digits ≡ decimal size → size < 2 ^ 64 → longest_message < size
+    → (parsed : Line) → IsInRange parsed → line ≢ line_text parsed
+call_too_long line digits size parts spelled small long End range is = heads_differ 99 101 _ _ (omega arith) (sym parts ∙ is)
+call_too_long line digits size parts spelled small long (Now moment) range is = heads_differ 99 110 _ _ (omega arith) (sym parts ∙ is)
+call_too_long line digits size parts spelled small long (Call other) range is =
+    let same : decimal size ≡ decimal other = sym spelled ∙ ap (drop 5) (sym parts ∙ is) in
+    omega (arith, decimal_injective size other small (omega arith) same)

@@ -1,0 +1,73 @@
+-- An event's spelling is one line and what its line calls: so no spelling begins another.
+use Rattle.std.proofs.Common.{◌≡◌, ◌≢◌, ℕ, ◌+◌, ◌^◌, ◌<◌, ◌≤◌, List, [], ◌∷◌, ◌++◌, length, ap, refl, sym, ◌∙◌, arith, decimal, codes, append_assoc}
+use Rattle.tab_drive.specs.Schedule.{Fits, IsNoEvent, end_line, line_feed, longest_message, spelling}
+use Rattle.tab_drive.specs.Lines.{IsLine, IsInRange, line_text, longest_line}
+use Rattle.tab_drive.specs.Reading.{HasNoLine, HasNoMessage}
+use Rattle.tab_drive.specs.declared.lines.Line.{Line}
+use Rattle.tab_drive.specs.declared.lines.Line.TheVariants.{End as EndLine, Now as NowLine, Call as CallLine}
+use Rattle.tab_drive.specs.declared.schedule.Scheduled.{Scheduled}
+use Rattle.tab_drive.specs.declared.schedule.Scheduled.TheVariants.{Now, Call}
+use Rattle.tab_drive.proofs.LineTexts.{IsLine-line_text, length-line_text, line_text_injective, split_length, split_line}
+
+-- what the event's line says
+abbrev line_for : Scheduled → Line
+line_for (Now moment) = NowLine moment
+line_for (Call message) = CallLine (length message)
+
+-- what follows the event's line
+abbrev body_for : Scheduled → List ℕ
+body_for (Now moment) = []
+body_for (Call message) = message ++ line_feed ∷ []
+
+in_range : (event : Scheduled) → Fits event → IsInRange (line_for event)
+in_range (Now moment) fits = fits
+in_range (Call message) fits = fits
+
+spelled : (event : Scheduled) (rest : List ℕ) → spelling event ++ rest ≡ line_text (line_for event) ++ line_feed ∷ (body_for event ++ rest)
+unfolding spelling
+spelled (Now moment) rest = append_assoc (line_text (NowLine moment)) (line_feed ∷ []) rest
+spelled (Call message) rest = append_assoc (line_text (CallLine (length message))) (line_feed ∷ (message ++ line_feed ∷ [])) rest
+
+ended : (rest : List ℕ) → end_line ++ rest ≡ line_text EndLine ++ line_feed ∷ rest
+unfolding end_line
+ended rest = refl
+
+-- bytes whose line is an event's begin with its line, and go on with what it calls
+same_line : (event : Scheduled) (line : Line) (rest more : List ℕ) → Fits event → IsInRange line → line_text line ++ line_feed ∷ rest ≡ spelling event ++ more
+    → (line ≡ line_for event) × (rest ≡ body_for event ++ more)
+same_line event line rest more fits range is =
+    let parts = split_line (line_text line) (line_text (line_for event)) rest (body_for event ++ more)
+    (IsLine-line_text line range) (IsLine-line_text (line_for event) (in_range event fits)) (is ∙ spelled event more) in
+    (line_text_injective line (line_for event) range (in_range event fits) parts.0, parts.1)
+
+-- no event where no line is
+pub no_event_no_line : (bytes : List ℕ) → HasNoLine bytes → IsNoEvent bytes
+no_event_no_line bytes no_line = record {
+  no_event = λ event rest fits is.
+      no_line (line_text (line_for event)) (body_for event ++ rest) (IsLine-line_text (line_for event) (in_range event fits)) (length-line_text (line_for event) (in_range event fits)) (is ∙ spelled event rest);
+  no_end = λ rest is. no_line (line_text EndLine) rest (IsLine-line_text EndLine tt) (length-line_text EndLine tt) (is ∙ ended rest);
+}
+
+-- none where the line says nothing
+pub no_event_other_line : (line rest : List ℕ) → IsLine line → ((parsed : Line) → IsInRange parsed → line ≢ line_text parsed) → IsNoEvent (line ++ line_feed ∷ rest)
+no_event_other_line line rest is_line other = record {
+  no_event = λ event more fits is.
+      other (line_for event) (in_range event fits)
+      (split_line line (line_text (line_for event)) rest (body_for event ++ more) is_line (IsLine-line_text (line_for event) (in_range event fits)) (is ∙ spelled event more)).0;
+  no_end = λ more is. other EndLine tt (split_line line (line_text EndLine) rest more is_line (IsLine-line_text EndLine tt) (is ∙ ended more)).0;
+}
+
+-- none where the line calls a message that does not follow
+pub no_event_no_message : (size : ℕ) (bytes : List ℕ) → size ≤ longest_message → HasNoMessage size bytes → IsNoEvent (line_text (CallLine size) ++ line_feed ∷ bytes)
+no_event_no_message size bytes short no_message = record {
+  no_event = uncalled;
+  no_end = λ rest is. let parts = split_line (line_text (CallLine size)) (line_text EndLine) bytes rest (IsLine-line_text (CallLine size) short) (IsLine-line_text EndLine tt) (is ∙ ended rest) in
+      (let no = line_text_injective (CallLine size) EndLine short tt parts.0 in cc);
+}
+  where
+    uncalled : (event : Scheduled) (rest : List ℕ) → Fits event → line_text (CallLine size) ++ line_feed ∷ bytes ≢ spelling event ++ rest
+    uncalled (Now moment) rest fits is = let no = (same_line (Now moment) (CallLine size) bytes rest fits short is).0 in cc
+    uncalled (Call message) rest fits is =
+        let parts = same_line (Call message) (CallLine size) bytes rest fits short is in
+        let sized : length message ≡ size = cc in
+        no_message message rest sized (parts.1 ∙ append_assoc message (line_feed ∷ []) rest)

@@ -1,0 +1,94 @@
+ghost use Rattle.std.specs.Prelude.{◌≡◌, vec_items, flat_map};
+ghost use Rattle.tab_outside.specs.Faults.{HasCause};
+ghost use Rattle.tab_drive.specs.Outgoing.{Wrote, outgoing_text};
+ghost use Rattle.tab_drive.specs.Walk.{reply_outcome};
+
+use itoa::Buffer;
+use std::alloc::Global;
+use std::marker::Model;
+use tab_outside::{Failed, Sink, write_all};
+use tab_service::memory_reply;
+
+/// The bytes of a reply.
+#[derive(Debug, Drop)]
+pub struct ReplyBytes {
+    bytes: Vec<u8>,
+}
+
+impl Model for ReplyBytes {
+    ghost use Rattle.std.specs.Prelude.{List, ℕ, vec_items};
+
+    ghost Value = { List ℕ };
+
+    ghost view = { λ reply. reply.bytes.items };
+}
+
+impl ReplyBytes {
+    pub fn new(bytes: Vec<u8>) -> ReplyBytes
+        ensures { result ≡ bytes.items }
+    {
+        ReplyBytes { bytes }
+    }
+
+    pub fn as_slice(&self) -> &[u8]
+        ensures { result.now ≡ self.now }
+    {
+        self.bytes.as_slice()
+    }
+}
+
+/// What an event gives to be written.
+#[derive(Debug, Drop)]
+pub enum Outgoing {
+    /// It was done.
+    Done,
+    /// The reply to a request.
+    Reply(ReplyBytes),
+    /// The reply that no memory was found.
+    OutOfMemory,
+}
+
+/// Writes what an event gives, and takes no memory for it.
+pub fn write_outgoing<K: Sink>(sink: &mut K, outgoing: &Outgoing) -> Result<(), Failed>
+    ensures written { Wrote (K.taken sink.old) (K.taken sink.new) result (outgoing_text outgoing.now) }
+    ensures cause { HasCause (K.faults sink.old) (K.faults sink.new) result }
+    ensures beside { K.beside sink.new ≡ K.beside sink.old }
+{
+    match outgoing {
+        Outgoing::Done => write_pieces(sink, &[b"ok\n".as_slice()]),
+        Outgoing::Reply(reply) => write_reply(sink, reply.as_slice()),
+        Outgoing::OutOfMemory => write_reply(sink, memory_reply()),
+    }
+}
+
+/// Writes the line of the reply's length, its bytes, and a line's end.
+fn write_reply<K: Sink>(sink: &mut K, reply: &[u8]) -> Result<(), Failed>
+    ensures written { Wrote (K.taken sink.old) (K.taken sink.new) result (reply_outcome reply.now) }
+    ensures cause { HasCause (K.faults sink.old) (K.faults sink.new) result }
+    ensures beside { K.beside sink.new ≡ K.beside sink.old }
+{
+    let mut buffer = Buffer::new();
+    let length = buffer.format(reply.len()).as_bytes();
+    write_pieces(
+        sink,
+        &[
+            b"reply ".as_slice(),
+            length,
+            b"\n".as_slice(),
+            reply,
+            b"\n".as_slice(),
+        ],
+    )
+}
+
+/// Writes the pieces one after another.
+pub fn write_pieces<K: Sink>(sink: &mut K, pieces: &[&[u8]]) -> Result<(), Failed>
+    ensures written { Wrote (K.taken sink.old) (K.taken sink.new) result (flat_map (λ piece. piece.now) pieces.now) }
+    ensures cause { HasCause (K.faults sink.old) (K.faults sink.new) result }
+    ensures beside { K.beside sink.new ≡ K.beside sink.old }
+{
+    for piece in pieces {
+        write_all(sink, piece)?;
+    }
+    Ok(())
+}

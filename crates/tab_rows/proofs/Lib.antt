@@ -1,0 +1,3 @@
+mod Filters
+pub mod RowLaws
+mod PlaceLemmas

@@ -1,0 +1,135 @@
+-- What a key's place among rising rows says of a look-up and of a change at the key, and that a binary search
+-- finds it.
+use Rattle.std.proofs.Common.{◌≡◌, ℕ, suc, ◌+◌, ◌<◌, ◌≤◌, List, [], ◌∷◌, ◌++◌, Bool, true, false, not, length, get_or, set, take, drop, Ordering, Ok, Err, Result, MatchResult, refl, sym, ap, ◌∙◌, subst, arith, inl, inr, ⊎_elim, ◌⊎◌}
+use Rattle.std.specs.Prelude.{Option, Some, None, All, AllPairs, IsTrue, IsFalse, filter, insert, remove, slice_get}
+use Rattle.std.specs.List.{AllWithin, HoldsAt}
+use Rattle.std.specs.List.Sorted.{IsSortedBy, IsPartitionedBy, IsPartitionPoint, IsBinarySearchResult}
+use Rattle.std.specs.Ordering.{is_lt, is_eq, is_gt, nat_cmp, ordering_then, ordering_reverse}
+use Rattle.std.specs.declared.cmp.Ordering.TheVariants.{Less, Equal, Greater}
+use Rattle.std.proofs.lemmas.List.{take-append-drop, set_split, get_or-take, get_or-drop, length-take-le, length-drop, drop_more}
+use Rattle.std.proofs.lemmas.List.Sorted.{searchable_from_sorted}
+use Rattle.std.proofs.lemmas.Bool.{true≢false, cases_eq}
+use Rattle.std.proofs.lemmas.Option.{slice_get_cases, slice_get_within, slice_get_read, get_or_from_slice_get}
+use Rattle.tab_keys.specs.Order.{key_cmp, key_lt, same_key}
+use Rattle.tab_keys.specs.TotalOrders.{key_cmp_total}
+use Rattle.tab_keys.specs.declared.keys.Key.{Key}
+use Rattle.tab_keys.proofs.OrderLaws.{key_lt_asymmetric, key_lt_transitive, key_lt_alike_left, key_lt_alike_right}
+use Rattle.tab_rows.specs.Rows.{RowView, AreRising, row_at, with_row, without_row, is_past}
+use Rattle.tab_rows.specs.Places.{StandsAt, BelongsAt}
+use Rattle.tab_rows.proofs.Filters.{filter_back}
+use Rattle.tab_rows.proofs.RowLaws.{AllBelow, AllAbove, with_row-between, row_at-between, without_row-between, with_row-over, row_at-over, without_row-over}
+
+-- ---- where the key belongs
+
+pub with_row-belongs : (rows : List RowView) (row : RowView) (place : ℕ) → BelongsAt rows row.key place → with_row rows row ≡ insert rows place row
+with_row-belongs rows row place h = ap (λ xs. with_row xs row) (sym (take-append-drop place rows)) ∙ with_row-between (take place rows) (drop place rows) row h.below h.above
+
+pub row_at-belongs : (rows : List RowView) (key : Key) (place : ℕ) → BelongsAt rows key place → row_at rows key ≡ None
+row_at-belongs rows key place h = ap (λ xs. row_at xs key) (sym (take-append-drop place rows)) ∙ row_at-between (take place rows) (drop place rows) key h.below h.above
+
+pub without_row-belongs : (rows : List RowView) (key : Key) (place : ℕ) → BelongsAt rows key place → without_row rows key ≡ rows
+without_row-belongs rows key place h =
+    ap (λ xs. without_row xs key) (sym (take-append-drop place rows)) ∙ (without_row-between (take place rows) (drop place rows) key h.below h.above ∙ take-append-drop place rows)
+
+-- ---- where the key stands
+
+within : (rows : List RowView) (key : Key) (place : ℕ) → StandsAt rows key place → place < length rows
+within rows key place h = slice_get_within rows place h.row h.here
+
+tail : (rows : List RowView) (key : Key) (place : ℕ) (h : StandsAt rows key place) → drop place rows ≡ h.row ∷ drop (suc place) rows
+tail rows key place h =
+    let inside : place < length rows = within rows key place h in
+    let one_more : place + 1 ≡ suc place = omega arith in
+    let next : drop (place + 1) rows ≡ drop (suc place) rows = ap (λ n. drop n rows) one_more in
+    drop_more rows place h.row inside ∙ (ap (λ x. x ∷ drop (place + 1) rows) (get_or_from_slice_get rows place h.row h.row h.here) ∙ ap (λ xs. h.row ∷ xs) next)
+
+parts : (rows : List RowView) (key : Key) (place : ℕ) (h : StandsAt rows key place) → rows ≡ take place rows ++ h.row ∷ drop (suc place) rows
+parts rows key place h = sym (take-append-drop place rows) ∙ ap (λ xs. take place rows ++ xs) (tail rows key place h)
+
+pub with_row-stands : (rows : List RowView) (row : RowView) (place : ℕ) → StandsAt rows row.key place → with_row rows row ≡ set rows place row
+with_row-stands rows row place h =
+    ap (λ xs. with_row xs row) (parts rows row.key place h)
+    ∙ (with_row-over (take place rows) h.row (drop (suc place) rows) row h.below h.same h.above ∙ sym (set_split rows place row (within rows row.key place h)))
+
+pub row_at-stands : (rows : List RowView) (key : Key) (place : ℕ) (h : StandsAt rows key place) → row_at rows key ≡ Some h.row
+row_at-stands rows key place h = ap (λ xs. row_at xs key) (parts rows key place h) ∙ row_at-over (take place rows) h.row (drop (suc place) rows) key h.below h.same
+
+pub without_row-stands : (rows : List RowView) (key : Key) (place : ℕ) → StandsAt rows key place → without_row rows key ≡ remove rows place
+without_row-stands rows key place h = ap (λ xs. without_row xs key) (parts rows key place h) ∙ without_row-over (take place rows) h.row (drop (suc place) rows) key h.below h.same h.above
+
+-- ---- what a binary search finds
+
+module _ {X : Type 0} (P : X → Type 0) (xs : List X) (n : ℕ) where
+  pub All-take_within : n ≤ length xs → AllWithin P xs 0 n → All P (take n xs)
+  All-take_within le h k d below =
+      let l = length-take-le n xs le in
+      let lt : k < n = omega arith in
+      rw get_or-take (h k d (omega arith) lt)
+
+  pub All-drop_within : AllWithin P xs n (length xs) → All P (drop n xs)
+  All-drop_within h k d below =
+      let l = length-drop n xs in
+      rw get_or-drop (h (n + k) d (omega arith) (omega arith))
+
+sorted : (rows : List RowView) → AreRising rows → IsSortedBy (λ a b. is_lt (key_cmp a.key b.key)) rows
+sorted rows rising k d low high = key_lt_asymmetric _ _ (rising k (k + 1) d (omega arith) high)
+
+stands_with : (rows : List RowView) (key : Key) (place : ℕ) (row : RowView) → AreRising rows → place < length rows → slice_get rows place ≡ Some row → same_key row.key key ≡ true → StandsAt rows key place
+stands_with rows key place row rising inside here same = record {
+  row = row;
+  here = here;
+  same = same;
+  below = All-take_within (λ other. IsTrue (key_lt other.key key)) rows place (omega arith)
+      (λ k d low high. sym (key_lt_alike_right row.key key (get_or rows k d).key same) ∙ subst (λ (r : RowView). key_lt (get_or rows k d).key r.key ≡ true) (get_or_from_slice_get rows place row d here) (rising k place d high inside));
+  above = All-drop_within (λ other. IsTrue (key_lt key other.key)) rows (suc place)
+      (λ k d low high. sym (key_lt_alike_left row.key key (get_or rows k d).key same) ∙ subst (λ (r : RowView). key_lt r.key (get_or rows k d).key ≡ true) (get_or_from_slice_get rows place row d here) (rising place k d (omega arith) high));
+}
+
+stands : (rows : List RowView) (key : Key) (place : ℕ) → AreRising rows → place < length rows → HoldsAt (λ row. key_cmp row.key key ≡ Equal) rows place → StandsAt rows key place
+stands rows key place rising inside holds =
+    ⊎_elim
+    (λ h. stands_with rows key place h.0 rising inside h.2 (ap is_eq (subst (λ (r : RowView). key_cmp r.key key ≡ Equal) h.3 (holds h.0))))
+    (λ h. absurd (omega (arith, h.0)))
+    (slice_get_cases rows place).1
+
+above_from_greater : (row : RowView) (key : Key) → key_cmp row.key key ≡ Greater → IsTrue (key_lt key row.key)
+above_from_greater row key h = ap is_lt (key_cmp_total.antisymm key row.key ∙ ap ordering_reverse h)
+
+belongs : (rows : List RowView) (key : Key) (place : ℕ) → place ≤ length rows → IsPartitionPoint (λ row. key_cmp row.key key ≡ Less) (λ row. key_cmp row.key key ≡ Greater) rows place → BelongsAt rows key place
+belongs rows key place inside point = record {
+  within = inside;
+  below = All-take_within (λ row. IsTrue (key_lt row.key key)) rows place inside (λ k d low high. ap is_lt (point.0 k d low high));
+  above = All-drop_within (λ row. IsTrue (key_lt key row.key)) rows place (λ k d low high. above_from_greater (get_or rows k d) key (point.1 k d low high));
+}
+
+pub place_from_search : (rows : List RowView) (key : Key) (found : Result ℕ ℕ) → AreRising rows
+    → MatchResult found (λ i. i < length rows) (λ i. i ≤ length rows)
+    → IsBinarySearchResult (λ row. key_cmp row.key key) rows found
+    → MatchResult found (StandsAt rows key) (BelongsAt rows key)
+place_from_search rows key (Ok place) rising inside h = stands rows key place rising inside h
+place_from_search rows key (Err place) rising inside h = belongs rows key place inside (h (searchable_from_sorted key_cmp_total (λ row. row.key) rows key (sorted rows rising)))
+
+-- the row that is read at the place is the one at the key
+pub row_at-read : (rows : List RowView) (key : Key) (place : ℕ) (row : RowView) → StandsAt rows key place → row ≡ get_or rows place row → Some row ≡ row_at rows key
+row_at-read rows key place row h read =
+    sym (slice_get_read rows (length rows) place row refl (within rows key place h) read) ∙ (h.here ∙ sym (row_at-stands rows key place h))
+
+-- ---- where a test of rising rows begins to fail
+
+pub partitioned : (p : RowView → Bool) (rows : List RowView) → ((a b : RowView) → IsTrue (key_lt a.key b.key) → p b ≡ true → p a ≡ true) → AreRising rows → IsPartitionedBy p rows
+partitioned p rows falls rising i j d le inside h =
+    ⊎_elim
+    (λ same. subst (λ (n : ℕ). p (get_or rows n d) ≡ true) (sym same) h)
+    (λ other. falls (get_or rows i d) (get_or rows j d) (rising i j d (omega arith) inside) h)
+    (cases_eq i j)
+
+-- the rows behind the point are those that pass the opposite test
+pub rest_from_point : (p q : RowView → Bool) (rows : List RowView) (n : ℕ) → ((row : RowView) → q row ≡ not (p row)) → n ≤ length rows
+    → IsPartitionPoint (λ row. p row ≡ true) (λ row. p row ≡ false) rows n → drop n rows ≡ filter q rows
+rest_from_point p q rows n opposite le point =
+    let front : All (λ row. q row ≡ false) (take n rows) = All-take_within (λ row. q row ≡ false) rows n le (λ k d low high. opposite (get_or rows k d) ∙ ap not (point.0 k d low high)) in
+    let back : All (λ row. q row ≡ true) (drop n rows) = All-drop_within (λ row. q row ≡ true) rows n (λ k d low high. opposite (get_or rows k d) ∙ ap not (point.1 k d low high)) in
+    sym (ap (filter q) (sym (take-append-drop n rows)) ∙ filter_back q (take n rows) (drop n rows) front back)
+
+pub below_falls : (key : Key) (a b : RowView) → IsTrue (key_lt a.key b.key) → key_lt b.key key ≡ true → key_lt a.key key ≡ true
+below_falls key a b h k = key_lt_transitive a.key b.key key h k
