@@ -8,3 +8,4 @@ pub mod OpenMessages
 pub mod Outcomes
 pub mod Spellings
 pub mod Told
+pub mod WalkSteps

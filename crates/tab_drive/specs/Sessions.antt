@@ -1,23 +1,40 @@
--- What a session keeps of a walk, and what one of its steps does.
-use Rattle.std.specs.Prelude.{◌≡◌, ℕ, ◌≤◌, List, [], ◌∷◌, ◌++◌, length, codes, None, Result, vec_items}
+-- What a session keeps of a walk, what a request comes to, and what one step does.
+use Rattle.std.specs.Prelude.{◌≡◌, ℕ, ◌+◌, ◌≤◌, max, List, [], ◌∷◌, ◌++◌, length, codes, Option, Some, None, Result, Ok, Err, vec_items, ⊤}
 use Rattle.std.specs.List.{AllByRecursion}
-use Rattle.tab_keys.specs.declared.bounds.Bound.TheVariants.{At}
-use Rattle.tab_rows.specs.Rows.{RowView}
-use Rattle.tab_history.specs.Groups.{ItemView}
+use Rattle.tab_keys.specs.declared.bounds.Bound.TheVariants.{At, End}
+use Rattle.tab_edm.specs.Entities.{EntityView}
+use Rattle.tab_rows.specs.Rows.{RowView, row_at, with_row}
+use Rattle.tab_history.specs.Groups.{ItemView, item_key}
 use Rattle.tab_history.specs.World.{IsNextTick}
 use Rattle.tab_history.specs.Legality.{Legal}
 use Rattle.tab_history.specs.declared.entries.Entry.{Entry}
+use Rattle.tab_history.specs.declared.entries.Entry.TheVariants.{Resolve, Page, Change, Denied}
+use Rattle.tab_history.specs.declared.entries.Denied.TheVariants.{Op, Memory}
+use Rattle.tab_history.specs.declared.groups.Op.TheVariants.{Insert}
+use Rattle.tab_history.specs.declared.groups.OpRefused.{OpRefused}
+use Rattle.tab_history.specs.declared.groups.OpRefused.TheVariants.{AlreadyThere}
 use Rattle.tab_history.specs.declared.exchanges.Ask.{Ask}
 use Rattle.tab_history.specs.declared.exchanges.Ask.TheVariants.{Page as Listing, Change as Writing}
-use Rattle.tab_drive.specs.Walk.{Walk, first_world, most_rows, Happens, walk_after, IsOutOfForm}
+use Rattle.tab_history.specs.declared.exchanges.Reply.{Reply}
+use Rattle.tab_history.specs.declared.exchanges.Reply.TheVariants.{Listed, Changed, Denied as Refusal}
+use Rattle.tab_service.specs.declared.forms.Request.{Request}
+use Rattle.tab_service.specs.Replies.{reply_text}
+use Rattle.tab_drive.specs.Walk.{Walk, first_world, most_rows, name_of, Happens, IsAnswer, reply_of, reply_outcome, walk_after, IsOutOfForm}
 use Rattle.tab_drive.specs.declared.schedule.Scheduled.{Scheduled}
 use Rattle.tab_drive.specs.declared.schedule.Scheduled.TheVariants.{Call}
 use Rattle.tab_drive.specs.declared.session.Session.{Session}
 
--- rows of the one table, no more than it may have
-pub record AreServed (rows : List RowView) : Type 0 where
-  pub in_table : AllByRecursion (λ row. row.key.table ≡ 1) rows
-  pub few : length rows ≤ most_rows
+-- the number of the one table
+abbrev pub goods : ℕ
+goods = 1
+
+-- the walk's store has one table, no more rows than it may have, one number for all floors, and one range
+pub record IsServing (walk : Walk) : Type 0 where
+  pub in_table : AllByRecursion (λ row. row.key.table ≡ goods) walk.past.world.rows
+  pub few : length walk.past.world.rows ≤ most_rows
+  pub floors : IsNextTick walk.past.world.floors walk.next_tick
+  pub names : walk.past.world.names ≡ first_world.names
+  pub bounds : walk.past.bounds ≡ At 0 [] ∷ []
 
 -- the session stands where the walk does
 pub record Keeps (session : Session) (walk : Walk) : Type 0 where
@@ -25,15 +42,59 @@ pub record Keeps (session : Session) (walk : Walk) : Type 0 where
   pub number : session.number ≡ walk.number
   pub next_tick : session.next_tick ≡ walk.next_tick
   pub rows : session.rows.rows ≡ walk.past.world.rows
-  pub served : AreServed walk.past.world.rows
-  pub floors : IsNextTick walk.past.world.floors walk.next_tick
-  pub names : walk.past.world.names ≡ first_world.names
-  pub bounds : walk.past.bounds ≡ At 0 [] ∷ []
+  pub serving : IsServing walk
 
 -- the requests that are served: a query of all rows, and a group of one item, both of the one table
 abbrev pub IsServedAsk : Ask → Type 0
 IsServedAsk (Listing name options) = (name ≡ codes "Goods") × (options.top ≡ most_rows) × (options.start ≡ None)
 IsServedAsk (Writing group) = (item : ItemView) × (group ≡ item ∷ []) × (item.name ≡ codes "Goods")
+
+-- the item writes the row, at a key without one
+pub record Writes (rows : List RowView) (tick : ℕ) (group : List ItemView) (row : RowView) : Type 0 where
+  pub item : ItemView
+  pub alone : group ≡ item ∷ []
+  pub entity : item.op ≡ Insert row.entity
+  pub key : row.key ≡ item_key goods item
+  pub tick_is : row.tick ≡ tick
+  pub absent : row_at rows (item_key goods item) ≡ None
+
+-- the item would write a row at the key of another
+pub record Collides (rows : List RowView) (group : List ItemView) (refusal : OpRefused) : Type 0 where
+  pub item : ItemView
+  pub alone : group ≡ item ∷ []
+  pub given : EntityView
+  pub entity : item.op ≡ Insert given
+  pub there : RowView
+  pub found : row_at rows (item_key goods item) ≡ Some there
+  pub first : refusal ≡ AlreadyThere 0
+
+-- what a request comes to over these rows: its reply, and the row that it writes
+abbrev pub IsDecided : List RowView → ℕ → Ask → Reply → Option RowView → Type 0
+IsDecided rows tick (Listing name options) (Listed page) None = page ≡ record { rows = rows; next = None; end = End }
+IsDecided rows tick (Writing group) (Changed given) (Some row) = (given ≡ tick) × Writes rows tick group row
+IsDecided rows tick (Writing group) (Refusal (Op refusal)) None = Collides rows group refusal
+IsDecided rows tick what (Refusal Memory) None = ⊤
+IsDecided rows tick what reply row = ⊥
+
+-- the entry of a request's answer
+abbrev pub entry_of : ℕ → ℕ → Ask → Reply → Entry
+entry_of number moment (Listing name options) (Listed page) = Page number goods options page
+entry_of number moment (Writing group) (Changed tick) = Change number moment goods group (Ok tick)
+entry_of number moment (Writing group) (Refusal (Op refusal)) = Change number moment goods group (Err refusal)
+entry_of number moment what reply = Denied number Memory
+
+-- the entries of a request
+abbrev pub entries_for : ℕ → ℕ → Ask → Reply → List Entry
+entries_for number moment what reply = Resolve number (name_of what) (Some goods) ∷ entry_of number moment what reply ∷ []
+
+-- the rows and the least tick of the next change, with a row that was written
+abbrev pub rows_then : List RowView → Option RowView → List RowView
+rows_then rows None = rows
+rows_then rows (Some row) = with_row rows row
+
+abbrev pub next_then : ℕ → Option RowView → ℕ
+next_then next None = next
+next_then next (Some row) = row.tick + 1
 
 -- the event happened: the history has its entries, which are legal, and the session stands where the walk does after it
 pub record Stepped (account : List ℕ) (walk : Walk) (event : Scheduled) (text : List ℕ) (old new : Session) : Type 0 where
@@ -42,6 +103,18 @@ pub record Stepped (account : List ℕ) (walk : Walk) (event : Scheduled) (text 
   pub legal : Legal walk.past entries
   pub keeps : Keeps new (walk_after walk event entries)
   pub history : new.history.items ≡ old.history.items ++ entries
+
+-- a request was answered with this text, and the history has its entries
+pub record Replied (old new : Session) (request : Request) (text : List ℕ) : Type 0 where
+  pub reply : Reply
+  pub row : Option RowView
+  pub decided : IsDecided old.rows.rows (max old.moment old.next_tick) request.ask reply row
+  pub written : text ≡ reply_outcome (reply_text request reply)
+  pub history : new.history.items ≡ old.history.items ++ entries_for old.number old.moment request.ask reply
+  pub rows : new.rows.rows ≡ rows_then old.rows.rows row
+  pub next : new.next_tick ≡ next_then old.next_tick row
+  pub number : new.number ≡ old.number + 1
+  pub moment : new.moment ≡ old.moment
 
 -- the event is a message that is out of form
 abbrev pub IsOutOfFormEvent : List ℕ → Walk → Scheduled → Type 0

@@ -137,10 +137,13 @@ done_outcome = codes "ok\n"
 abbrev pub most_rows : ℕ
 most_rows = 1000
 
--- a change that is not served yet: the table is full, or the last moment was reached
+-- a change that is not served yet, over so many rows at this moment: the table is full, or the last moment was reached
+abbrev pub IsBeyond : ℕ → ℕ → ℕ → Ask → Type 0
+IsBeyond count moment next_tick (Listing name options) = ⊥
+IsBeyond count moment next_tick (Writing group) = (most_rows ≤ count) ⊎ (GREATEST < max moment next_tick)
+
 abbrev pub IsUnserved : Walk → Ask → Type 0
-IsUnserved walk (Listing name options) = ⊥
-IsUnserved walk (Writing group) = (most_rows ≤ length walk.past.world.rows) ⊎ (GREATEST < max walk.moment walk.next_tick)
+IsUnserved walk what = IsBeyond (length walk.past.world.rows) walk.moment walk.next_tick what
 
 -- a message is read, answered and replied to
 pub record Answers (account : List ℕ) (walk : Walk) (message : List ℕ) (entries : List Entry) (text : List ℕ) : Type 0 where

@@ -1,9 +1,11 @@
-ghost use Rattle.std.specs.Prelude.{◌≡◌, ◌+◌, ◌-◌, ◌^◌, ◌<◌, ◌≤◌, ◌↔◌, max, List, [], ◌∷◌, ◌++◌, IfOk, OnOk, OnErr, IsErrOf, IsTrue, vec_len, vec_capacity, length};
+ghost use Rattle.std.specs.Prelude.{◌≡◌, ◌+◌, ◌-◌, ◌^◌, ◌<◌, ◌≤◌, ◌↔◌, max, List, [], ◌∷◌, ◌++◌, IfOk, OnOk, OnErr, IsErrOf, IsTrue, IsSome, OnSome, Some, None, vec_len, vec_capacity, length};
 ghost use Rattle.tab_rows.specs.Rows.{RowView};
 ghost use Rattle.tab_history.specs.declared.entries.Entry.{Entry};
-ghost use Rattle.tab_drive.specs.Walk.{Walk, first_walk, opening, IsUnserved};
+ghost use Rattle.tab_drive.specs.Walk.{Walk, first_walk, opening, IsBeyond, IsOutOfForm, name_of, reply_outcome};
+ghost use Rattle.tab_service.specs.Replies.{Suits, reply_text};
+ghost use Rattle.tab_edm.specs.declared.TheConstants.{GREATEST};
 ghost use Rattle.tab_drive.specs.Outgoing.{outgoing_text};
-ghost use Rattle.tab_drive.specs.Sessions.{Keeps, Stepped, IsOutOfFormEvent, IsServedAsk};
+ghost use Rattle.tab_drive.specs.Sessions.{Keeps, Stepped, Replied, IsOutOfFormEvent, IsServedAsk, IsDecided, entry_of, entries_for, rows_then, next_then};
 
 use std::alloc::Global;
 use tab_edm::GREATEST;
@@ -14,7 +16,7 @@ use tab_service::{Request, read_request, reply_bytes};
 
 use crate::copies::copied_rows;
 use crate::outgoing::{Outgoing, ReplyBytes};
-use crate::schedule::Scheduled;
+use crate::schedule::{RawMessage, Scheduled};
 
 /// The number of the one table.
 const GOODS: u64 = 1;
@@ -61,6 +63,252 @@ impl Session {
             rows: Rows::new(alloc),
             history,
         })
+    }
+
+    /// Takes one event: adds its entries to the history and answers what it gives to be written. After a refusal the
+    /// history is as before.
+    pub fn step(
+        &mut self,
+        alloc: Global,
+        account: &str,
+        event: Scheduled,
+    ) -> Result<Outgoing, StepRefused>
+        requires { self.old.number < 2 ^ 64 - 1 }
+        ensures ok { (walk : Walk) → Keeps self.old walk → IfOk result (λ outgoing. Stepped account.now walk event (outgoing_text outgoing) self.old self.new) }
+        ensures refused { (walk : Walk) → Keeps self.old walk → IsErrOf result StepRefused.OutOfForm → IsOutOfFormEvent account.now walk event }
+        ensures err { OnErr result (self.new.history.items ≡ self.old.history.items) }
+    {
+        match event {
+            Scheduled::Now { moment } => {
+                self.moment = moment;
+                self.number += 1;
+                Ok(Outgoing::Done)
+            }
+            Scheduled::Call { message } => self.call(alloc, account, &message),
+        }
+    }
+
+    /// Reads a message and answers it.
+    fn call(
+        &mut self,
+        alloc: Global,
+        account: &str,
+        message: &RawMessage,
+    ) -> Result<Outgoing, StepRefused>
+        requires { self.old.number < 2 ^ 64 - 1 }
+        ensures ok { (walk : Walk) → Keeps self.old walk → IfOk result (λ outgoing. Stepped account.now walk (Scheduled.Call message.now) (outgoing_text outgoing) self.old self.new) }
+        ensures refused { (walk : Walk) → Keeps self.old walk → IsErrOf result StepRefused.OutOfForm → IsOutOfForm account.now walk message.now }
+        ensures err { OnErr result (self.new.history.items ≡ self.old.history.items) }
+    {
+        let request = match read_request(alloc, account, message.as_slice()) {
+            Ok(Some(request)) => request,
+            Ok(None) => return Err(StepRefused::OutOfForm),
+            Err(_) => return Err(StepRefused::Memory),
+        };
+        if self.is_beyond(&request.ask) {
+            return Err(StepRefused::OutOfForm);
+        }
+        match self.answer(alloc, request) {
+            Ok(outgoing) => Ok(outgoing),
+            Err(_) => Err(StepRefused::Memory),
+        }
+    }
+
+    /// Whether the request is for a change that is not served: the table is full, or the last moment was reached.
+    fn is_beyond(&self, ask: &Ask) -> bool
+        ensures { IsTrue result ↔ IsBeyond (length self.now.rows.rows) self.now.moment self.now.next_tick ask.now }
+    {
+        match ask {
+            Ask::Page { .. } => false,
+            Ask::Change { .. } => {
+                self.rows.len() >= MOST_ROWS || self.moment.max(self.next_tick) > GREATEST
+            }
+        }
+    }
+
+    /// Answers a request. All that can fail is done before anything changes.
+    fn answer(&mut self, alloc: Global, request: Request) -> Result<Outgoing, Memory>
+        requires number { self.old.number < 2 ^ 64 - 1 }
+        requires served { IsServedAsk request.ask }
+        requires within { IsBeyond (length self.old.rows.rows) self.old.moment self.old.next_tick request.ask → ⊥ }
+        ensures ok { IfOk result (λ outgoing. Replied self.old self.new request (outgoing_text outgoing)) }
+        ensures err { OnErr result (self.new.history.items ≡ self.old.history.items) }
+    {
+        if self.history.reserve(2).is_err() {
+            return Err(Memory);
+        }
+        let name = name_of(&request.ask).try_copy(alloc)?;
+        let decided = self.decide(alloc, &request.ask);
+        let outgoing = outgoing_for(alloc, &request, &decided.reply)?;
+        self.record(name, request.ask, decided);
+        Ok(outgoing)
+    }
+
+    /// Decides a request without changing what is kept, but for the room for a row.
+    fn decide(&mut self, alloc: Global, ask: &Ask) -> Decided
+        requires served { IsServedAsk ask.now }
+        requires within { IsBeyond (length self.old.rows.rows) self.old.moment self.old.next_tick ask.now → ⊥ }
+        ensures decided { IsDecided self.old.rows.rows (max self.old.moment self.old.next_tick) ask.now result.reply result.row }
+        ensures rows { self.new.rows.rows ≡ self.old.rows.rows }
+        ensures room { OnSome result.row (0 < self.new.rows.spare) }
+        ensures same { self.new ≡ record self.old { rows = self.new.rows } }
+    {
+        let decided = match ask {
+            Ask::Page { .. } => self.decide_page(alloc),
+            Ask::Change { group } => self.decide_change(alloc, group),
+        };
+        match decided {
+            Ok(decided) => decided,
+            Err(_) => Decided {
+                reply: Reply::Denied(Denied::Memory),
+                row: None,
+            },
+        }
+    }
+
+    /// The page of all rows.
+    fn decide_page(&self, alloc: Global) -> Result<Decided, Memory>
+        ensures { IfOk result (λ decided. (decided.row ≡ None) × (decided.reply ≡ Reply.Listed (record { rows = self.now.rows.rows; next = None; end = Bound.End }))) }
+    {
+        let first = Key {
+            table: GOODS,
+            pk: empty_key(alloc)?,
+            rk: empty_key(alloc)?,
+        };
+        let rows = copied_rows(alloc, &self.rows, &first)?;
+        Ok(Decided {
+            reply: Reply::Listed(Page {
+                rows: PageRows::new(rows),
+                next: None,
+                end: Bound::End,
+            }),
+            row: None,
+        })
+    }
+
+    /// The row that a group of one insert writes, or its refusal.
+    fn decide_change(&mut self, alloc: Global, group: &Group) -> Result<Decided, Memory>
+        requires alone { length group.now ≡ 1 }
+        requires in_time { max self.old.moment self.old.next_tick ≤ GREATEST }
+        ensures decided { IfOk result (λ decided. IsDecided self.old.rows.rows (max self.old.moment self.old.next_tick) (Ask.Change group.now) decided.reply decided.row) }
+        ensures rows { self.new.rows.rows ≡ self.old.rows.rows }
+        ensures room { IfOk result (λ decided. OnSome decided.row (0 < self.new.rows.spare)) }
+        ensures same { self.new ≡ record self.old { rows = self.new.rows } }
+    {
+        let item = &group.items()[0];
+        let key = Key {
+            table: GOODS,
+            pk: item.pk.try_copy(alloc)?,
+            rk: item.rk.try_copy(alloc)?,
+        };
+        if self.rows.get(&key).is_some() {
+            return Ok(Decided {
+                reply: Reply::Denied(Denied::Op(OpRefused::AlreadyThere { index: 0 })),
+                row: None,
+            });
+        }
+        let Op::Insert(entity) = &item.op;
+        let Ok(entity) = entity.try_copy(alloc) else {
+            return Err(Memory);
+        };
+        self.rows.reserve(1)?;
+        let tick = self.moment.max(self.next_tick);
+        Ok(Decided {
+            reply: Reply::Changed(tick),
+            row: Some(Row { key, entity, tick }),
+        })
+    }
+
+    /// Adds the entries of a decided request to the history, and its row to the rows.
+    fn record(&mut self, name: TableName, ask: Ask, decided: Decided)
+        requires room { vec_len self.old.history + 2 ≤ vec_capacity self.old.history }
+        requires number { self.old.number < 2 ^ 64 - 1 }
+        requires name { name ≡ name_of ask }
+        requires spare { OnSome decided.row (0 < self.old.rows.spare) }
+        ensures history { self.new.history.items ≡ self.old.history.items ++ entries_for self.old.number self.old.moment ask decided.reply }
+        ensures rows { self.new.rows.rows ≡ rows_then self.old.rows.rows decided.row }
+        ensures next { self.new.next_tick ≡ next_then self.old.next_tick decided.row }
+        ensures number { self.new.number ≡ self.old.number + 1 }
+        ensures moment { self.new.moment ≡ self.old.moment }
+    {
+        self.history.push_reserved(Entry::Resolve {
+            ask: self.number,
+            name,
+            table: Some(GOODS),
+        });
+        self.history
+            .push_reserved(entry_for(self.number, self.moment, ask, decided.reply));
+        self.number += 1;
+        if let Some(row) = decided.row {
+            self.next_tick = row.tick + 1;
+            self.rows.put(row);
+        }
+    }
+}
+
+/// What a request comes to: its reply, and the row that it writes.
+#[derive(Drop)]
+struct Decided {
+    reply: Reply,
+    row: Option<Row>,
+}
+
+/// The table that a request asks about.
+fn name_of(ask: &Ask) -> &TableName
+    requires { IsServedAsk ask.now }
+    ensures { result.now ≡ name_of ask.now }
+{
+    match ask {
+        Ask::Page { name, .. } => name,
+        Ask::Change { group } => {
+            let item = &group.items()[0];
+            &item.name
+        }
+    }
+}
+
+/// The entry of a request's answer.
+fn entry_for(number: u64, moment: u64, ask: Ask, reply: Reply) -> Entry
+    ensures { result ≡ entry_of number moment ask reply }
+{
+    match (ask, reply) {
+        (Ask::Page { options, .. }, Reply::Listed(page)) => Entry::Page {
+            ask: number,
+            table: GOODS,
+            options,
+            page,
+        },
+        (Ask::Change { group }, Reply::Changed(tick)) => Entry::Change {
+            ask: number,
+            now: moment,
+            table: GOODS,
+            group,
+            result: Ok(tick),
+        },
+        (Ask::Change { group }, Reply::Denied(Denied::Op(refusal))) => Entry::Change {
+            ask: number,
+            now: moment,
+            table: GOODS,
+            group,
+            result: Err(refusal),
+        },
+        _ => Entry::Denied {
+            ask: number,
+            why: Denied::Memory,
+        },
+    }
+}
+
+/// What a reply gives to be written. Want of memory gives a reply that needs none.
+fn outgoing_for(alloc: Global, request: &Request, reply: &Reply) -> Result<Outgoing, Memory>
+    requires { Suits request.now reply.now }
+    ensures { IfOk result (λ outgoing. outgoing_text outgoing ≡ reply_outcome (reply_text request.now reply.now)) }
+{
+    match reply {
+        Reply::Denied(Denied::Memory) => Ok(Outgoing::OutOfMemory),
+        _ => Ok(Outgoing::Reply(ReplyBytes::new(reply_bytes(
+            alloc, request, reply,
+        )?))),
     }
 }
 

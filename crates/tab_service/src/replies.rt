@@ -1,5 +1,5 @@
 ghost use Rattle.std.specs.Prelude.{◌≡◌, IfOk, vec_items};
-ghost use Rattle.tab_service.specs.Replies.{Suits, reply_text, memory_text};
+ghost use Rattle.tab_service.specs.Replies.{Suits, reply_text, memory_fault};
 
 use crate::Request;
 use std::alloc::Global;
@@ -14,7 +14,7 @@ pub fn reply_bytes(alloc: Global, request: &Request, reply: &Reply) -> Result<Ve
 }
 
 pub fn memory_reply() -> &'static [u8]
-    ensures { result.now ≡ memory_text }
+    ensures { result.now ≡ memory_fault }
 {
     b""
 }

@@ -1,0 +1,156 @@
+-- What a decided request adds to a walk.
+use Rattle.std.proofs.Common.{◌≡◌, ℕ, ◌+◌, ◌≤◌, ◌<◌, ◌⊎◌, max, List, [], ◌∷◌, ◌++◌, length, refl, sym, ap, ◌∙◌, subst, arith, inl, inr}
+use Rattle.std.specs.Prelude.{codes, Option, Some, None, Result, Ok, Err, ⊤}
+use Rattle.std.specs.List.{AllByRecursion}
+use Rattle.tab_keys.specs.TableNames.{folded}
+use Rattle.tab_keys.specs.declared.bounds.Bound.TheVariants.{At, End}
+use Rattle.tab_edm.specs.declared.TheConstants.{GREATEST}
+use Rattle.tab_edm.specs.Entities.{EntityView}
+use Rattle.tab_keys.specs.declared.keys.Key.{Key}
+use Rattle.tab_rows.specs.Rows.{RowView, row_at, with_row}
+use Rattle.tab_history.specs.Groups.{ItemView, item_key}
+use Rattle.tab_history.specs.World.{table_of, floor_of, IsNextTick, MayHaveTick}
+use Rattle.tab_history.specs.Changes.{group_outcome, group_keys}
+use Rattle.tab_history.specs.Legality.{Legal, after, after_all}
+use Rattle.tab_history.specs.declared.groups.Op.TheVariants.{Insert}
+use Rattle.tab_history.specs.declared.groups.OpRefused.{OpRefused}
+use Rattle.tab_history.specs.declared.groups.OpRefused.TheVariants.{AlreadyThere}
+use Rattle.tab_history.specs.declared.entries.Denied.TheVariants.{Op, Memory}
+use Rattle.tab_history.specs.declared.exchanges.Ask.{Ask}
+use Rattle.tab_history.specs.declared.exchanges.Ask.TheVariants.{Page as Listing, Change as Writing}
+use Rattle.tab_history.specs.declared.exchanges.Reply.{Reply}
+use Rattle.tab_history.specs.declared.exchanges.Reply.TheVariants.{Listed, Changed, Denied as Refusal}
+use Rattle.tab_history.specs.Pages.{page_of}
+use Rattle.tab_history.proofs.ChangeLaws.{insert_stands, insert_refused, may_have_next, next_tick-raised, table_for-first}
+use Rattle.tab_history.proofs.PageLaws.{page_of-whole}
+use Rattle.tab_history.specs.declared.pages.Options.{Options}
+use Rattle.tab_history.specs.declared.pages.Page.{Page}
+use Rattle.tab_drive.specs.Walk.{Walk, first_walk, first_world, most_rows, name_of, group_name, IsAnswer, reply_of, next_tick_after, IsUnserved}
+use Rattle.tab_drive.specs.Sessions.{goods, IsServing, IsServedAsk, Writes, Collides, IsDecided, entry_of, entries_for, rows_then, next_then}
+
+-- what holds of a walk after a decided request
+pub record Adds (walk : Walk) (what : Ask) (reply : Reply) (row : Option RowView) : Type 0 where
+  pub answers : IsAnswer walk what (entry_of walk.number walk.moment what reply)
+  pub replies : reply_of (entry_of walk.number walk.moment what reply) ≡ Some reply
+  pub legal : Legal walk.past (entries_for walk.number walk.moment what reply)
+  pub rows : (after_all walk.past (entries_for walk.number walk.moment what reply)).world.rows ≡ rows_then walk.past.world.rows row
+  pub next : next_tick_after walk.next_tick (entries_for walk.number walk.moment what reply) ≡ next_then walk.next_tick row
+  pub floors : IsNextTick (after_all walk.past (entries_for walk.number walk.moment what reply)).world.floors (next_then walk.next_tick row)
+  pub names : (after_all walk.past (entries_for walk.number walk.moment what reply)).world.names ≡ first_world.names
+  pub bounds : (after_all walk.past (entries_for walk.number walk.moment what reply)).bounds ≡ At 0 [] ∷ []
+
+-- the one name is that of the one table
+goods_found : (walk : Walk) (name : List ℕ) → IsServing walk → name ≡ codes "Goods" → Some goods ≡ table_of walk.past.world.names name
+unfolding table_of folded
+goods_found walk name serving is = rw (serving.names, is) refl
+
+-- a walk begins with a store that is served
+pub first_serving : (moment : ℕ) → IsServing (first_walk moment)
+unfolding first_walk floor_of
+first_serving moment = record {
+  in_table = tt;
+  few = omega arith;
+  floors = record { above = λ key. omega arith; reached = inl refl };
+  names = refl;
+  bounds = refl;
+}
+
+page_is : (walk : Walk) (options : Options) → IsServing walk → (options.top ≡ most_rows) → (options.start ≡ None)
+    → page_of walk.past.world.rows walk.past.bounds goods options ≡ record { rows = walk.past.world.rows; next = None; end = End }
+page_is walk options serving top start =
+    rw serving.bounds (page_of-whole goods options walk.past.world.rows start serving.in_table (let few : length walk.past.world.rows ≤ most_rows = serving.few in omega (arith, top)) (let few : length walk.past.world.rows ≤ most_rows = serving.few in omega arith))
+
+-- a page is that of the world
+adds_page : (walk : Walk) (name : List ℕ) (options : Options) (page : Page) → IsServing walk → IsServedAsk (Listing name options)
+    → page ≡ record { rows = walk.past.world.rows; next = None; end = End } → Adds walk (Listing name options) (Listed page) None
+adds_page walk name options page serving served whole = record {
+  answers = (refl, refl);
+  replies = refl;
+  legal = (goods_found walk name serving served.0, ((table_for-first walk.past.tables walk.number (Some goods), whole ∙ sym (page_is walk options serving served.1 served.2)), tt));
+  rows = refl;
+  next = refl;
+  floors = serving.floors;
+  names = serving.names;
+  bounds = serving.bounds;
+}
+
+-- the name of a group of one
+group_named : (group : List ItemView) → IsServedAsk (Writing group) → group_name group ≡ codes "Goods"
+group_named group served = rw served.1 served.2
+
+same_rows : (k l : Key) (e : EntityView) (t u : ℕ) → k ≡ l → t ≡ u → (let row : RowView = record { key = k; entity = e; tick = t } in row) ≡ record { key = l; entity = e; tick = u }
+same_rows k l e t u p q = cc
+
+-- the group of one item that writes the row
+adds_item : (walk : Walk) (item : ItemView) (tick : ℕ) (row : RowView) → IsServing walk → item.name ≡ codes "Goods" → tick ≡ max walk.moment walk.next_tick → tick ≤ GREATEST
+    → item.op ≡ Insert row.entity → row.key ≡ item_key goods item → row.tick ≡ tick → row_at walk.past.world.rows (item_key goods item) ≡ None
+    → Adds walk (Writing (item ∷ [])) (Changed tick) (Some row)
+adds_item walk item tick row serving name is in_time entity key tick_is absent =
+    let outcome : group_outcome walk.past.world.rows goods tick (item ∷ []) ≡ Ok (with_row walk.past.world.rows row) =
+        insert_stands walk.past.world.rows goods tick item row.entity entity absent
+        ∙ ap (λ (r : RowView). Ok (with_row walk.past.world.rows r)) (same_rows (item_key goods item) row.key row.entity tick row.tick (sym key) (sym tick_is)) in
+    let greatest : max walk.moment walk.next_tick ≤ GREATEST = omega (arith, is, in_time) in
+    let may : MayHaveTick walk.past.world.floors (group_keys goods (item ∷ [])) walk.moment tick =
+        rw is (may_have_next walk.past.world.floors walk.next_tick walk.moment (group_keys goods (item ∷ [])) serving.floors greatest) in
+    record {
+      answers = (refl, refl, refl, is);
+      replies = refl;
+      legal = (goods_found walk item.name serving name, ((table_for-first walk.past.tables walk.number (Some goods), (with_row walk.past.world.rows row, outcome), may), tt));
+      rows = rw outcome refl;
+      next = ap (λ (t : ℕ). t + 1) (sym tick_is);
+      floors = rw tick_is (next_tick-raised walk.past.world.floors walk.next_tick tick (item_key goods item) serving.floors (omega (arith, is)));
+      names = serving.names;
+      bounds = serving.bounds;
+    }
+
+-- a change that stands
+adds_row : (walk : Walk) (group : List ItemView) (tick : ℕ) (row : RowView) → IsServing walk → IsServedAsk (Writing group) → tick ≡ max walk.moment walk.next_tick → tick ≤ GREATEST
+    → Writes walk.past.world.rows tick group row → Adds walk (Writing group) (Changed tick) (Some row)
+adds_row walk group tick row serving served is in_time writes =
+    let name = rw writes.alone at (group_named group served) in
+    subst (λ (items : List ItemView). Adds walk (Writing items) (Changed tick) (Some row)) (sym writes.alone)
+        (adds_item walk writes.item tick row serving name is in_time writes.entity writes.key writes.tick_is writes.absent)
+
+refused_outcome : (rows : List RowView) (group : List ItemView) (refusal : OpRefused) → Collides rows group refusal → group_outcome rows goods 0 group ≡ Err refusal
+refused_outcome rows group refusal collides =
+    ap (λ (items : List ItemView). group_outcome rows goods 0 items) collides.alone
+    ∙ insert_refused rows goods 0 collides.item collides.given collides.there collides.entity collides.found
+    ∙ ap (λ (why : OpRefused). Err why) (sym collides.first)
+
+-- a change that is refused
+adds_refusal : (walk : Walk) (group : List ItemView) (refusal : OpRefused) → IsServing walk → IsServedAsk (Writing group)
+    → Collides walk.past.world.rows group refusal → Adds walk (Writing group) (Refusal (Op refusal)) None
+adds_refusal walk group refusal serving served collides = record {
+  answers = (refl, refl, refl, tt);
+  replies = refl;
+  legal = (goods_found walk (group_name group) serving (group_named group served),
+      ((table_for-first walk.past.tables walk.number (Some goods), refused_outcome walk.past.world.rows group refusal collides), tt));
+  rows = refl;
+  next = refl;
+  floors = serving.floors;
+  names = serving.names;
+  bounds = serving.bounds;
+}
+
+-- no memory
+adds_denial : (walk : Walk) (what : Ask) → IsServing walk → IsServedAsk what → Adds walk what (Refusal Memory) None
+adds_denial walk (Listing name options) serving served = record {
+  answers = (refl, refl);
+  replies = refl;
+  legal = (goods_found walk name serving served.0, (tt, tt));
+  rows = refl;
+  next = refl;
+  floors = serving.floors;
+  names = serving.names;
+  bounds = serving.bounds;
+}
+adds_denial walk (Writing group) serving served = record {
+  answers = (refl, refl);
+  replies = refl;
+  legal = (goods_found walk (group_name group) serving (group_named group served), (tt, tt));
+  rows = refl;
+  next = refl;
+  floors = serving.floors;
+  names = serving.names;
+  bounds = serving.bounds;
+}
