@@ -9,3 +9,4 @@ pub mod Outcomes
 pub mod Spellings
 pub mod Told
 pub mod WalkSteps
+pub mod SessionSteps

@@ -1,13 +1,14 @@
 -- What a decided request adds to a walk.
-use Rattle.std.proofs.Common.{◌≡◌, ℕ, ◌+◌, ◌≤◌, ◌<◌, ◌⊎◌, max, List, [], ◌∷◌, ◌++◌, length, refl, sym, ap, ◌∙◌, subst, arith, inl, inr}
+use Rattle.std.proofs.Common.{◌≡◌, ℕ, ◌+◌, ◌≤◌, ◌<◌, ◌⊎◌, max, List, [], ◌∷◌, ◌++◌, length, refl, sym, ap, ◌∙◌, subst, arith, inl, inr, not, true, false, cond}
 use Rattle.std.specs.Prelude.{codes, Option, Some, None, Result, Ok, Err, ⊤}
 use Rattle.std.specs.List.{AllByRecursion}
+use Rattle.tab_keys.specs.Order.{head_key, key_lt}
 use Rattle.tab_keys.specs.TableNames.{folded}
 use Rattle.tab_keys.specs.declared.bounds.Bound.TheVariants.{At, End}
 use Rattle.tab_edm.specs.declared.TheConstants.{GREATEST}
 use Rattle.tab_edm.specs.Entities.{EntityView}
 use Rattle.tab_keys.specs.declared.keys.Key.{Key}
-use Rattle.tab_rows.specs.Rows.{RowView, row_at, with_row}
+use Rattle.tab_rows.specs.Rows.{RowView, row_at, rows_from, with_row}
 use Rattle.tab_history.specs.Groups.{ItemView, item_key}
 use Rattle.tab_history.specs.World.{table_of, floor_of, IsNextTick, MayHaveTick}
 use Rattle.tab_history.specs.Changes.{group_outcome, group_keys}
@@ -22,10 +23,14 @@ use Rattle.tab_history.specs.declared.exchanges.Reply.{Reply}
 use Rattle.tab_history.specs.declared.exchanges.Reply.TheVariants.{Listed, Changed, Denied as Refusal}
 use Rattle.tab_history.specs.Pages.{page_of}
 use Rattle.tab_history.proofs.ChangeLaws.{insert_stands, insert_refused, may_have_next, next_tick-raised, table_for-first}
-use Rattle.tab_history.proofs.PageLaws.{page_of-whole}
+use Rattle.tab_history.proofs.PageLaws.{page_of-whole, filter-passed, key_lt-head}
 use Rattle.tab_history.specs.declared.pages.Options.{Options}
 use Rattle.tab_history.specs.declared.pages.Page.{Page}
-use Rattle.tab_drive.specs.Walk.{Walk, first_walk, first_world, most_rows, name_of, group_name, IsAnswer, reply_of, next_tick_after, IsUnserved}
+use Rattle.tab_drive.specs.Walk.{Walk, first_walk, first_world, most_rows, name_of, group_name, IsAnswer, reply_of, next_tick_after, walk_after, IsBeyond, IsUnserved}
+use Rattle.tab_drive.specs.declared.schedule.Scheduled.{Scheduled}
+use Rattle.tab_rows.proofs.RowLaws.{All-with_row, length-with_row}
+use Rattle.std.proofs.lemmas.List.Elements.{recursion_from_All, All-from_recursion}
+use Rattle.std.proofs.lemmas.Bool.{cases_lt}
 use Rattle.tab_drive.specs.Sessions.{goods, IsServing, IsServedAsk, Writes, Collides, IsDecided, entry_of, entries_for, rows_then, next_then}
 
 -- what holds of a walk after a decided request
@@ -59,6 +64,19 @@ page_is : (walk : Walk) (options : Options) → IsServing walk → (options.top 
     → page_of walk.past.world.rows walk.past.bounds goods options ≡ record { rows = walk.past.world.rows; next = None; end = End }
 page_is walk options serving top start =
     rw serving.bounds (page_of-whole goods options walk.past.world.rows start serving.in_table (let few : length walk.past.world.rows ≤ most_rows = serving.few in omega (arith, top)) (let few : length walk.past.world.rows ≤ most_rows = serving.few in omega arith))
+
+-- no row of the one table stands below the table's first key
+all_from_first : (rows : List RowView) → AllByRecursion (λ row. row.key.table ≡ goods) rows → AllByRecursion (λ row. not (key_lt row.key (head_key goods [])) ≡ true) rows
+all_from_first [] at = tt
+all_from_first (row ∷ rows) at =
+    (ap not (subst (λ (t : ℕ). key_lt row.key (head_key t []) ≡ false) at.0 (key_lt-head row.key)), all_from_first rows at.1)
+
+rows_from-first : (rows : List RowView) → AllByRecursion (λ row. row.key.table ≡ goods) rows → rows_from rows (head_key goods []) ≡ rows
+unfolding rows_from
+rows_from-first rows at = filter-passed (λ row. not (key_lt row.key (head_key goods []))) rows (all_from_first rows at)
+
+listed_rows : (rows kept : List RowView) (page : Page) → rows ≡ kept → page ≡ record { rows = rows; next = None; end = End } → page ≡ record { rows = kept; next = None; end = End }
+listed_rows rows kept page same whole = whole ∙ ap (λ (all : List RowView). let given : Page = record { rows = all; next = None; end = End } in given) same
 
 -- a page is that of the world
 adds_page : (walk : Walk) (name : List ℕ) (options : Options) (page : Page) → IsServing walk → IsServedAsk (Listing name options)
@@ -154,3 +172,71 @@ adds_denial walk (Writing group) serving served = record {
   names = serving.names;
   bounds = serving.bounds;
 }
+
+-- a change that is served finds room for a row, and a tick
+pub not_beyond : (count moment next : ℕ) (group : List ItemView) → (IsBeyond count moment next (Writing group) → ⊥) → (count < most_rows) × (max moment next ≤ GREATEST)
+not_beyond count moment next group within = (by_count (cases_lt count most_rows), by_tick (cases_lt GREATEST (max moment next)))
+  where
+    by_count : (count < most_rows) ⊎ (most_rows ≤ count) → count < most_rows
+    by_count (inl h) = h
+    by_count (inr h) = absurd (within (inl h))
+
+    by_tick : (GREATEST < max moment next) ⊎ (max moment next ≤ GREATEST) → max moment next ≤ GREATEST
+    by_tick (inl h) = absurd (within (inr h))
+    by_tick (inr h) = h
+
+-- every decided request adds what its reply says
+pub adds : (walk : Walk) (what : Ask) (reply : Reply) (row : Option RowView) → IsServing walk → IsServedAsk what → (IsUnserved walk what → ⊥)
+    → IsDecided walk.past.world.rows (max walk.moment walk.next_tick) what reply row → Adds walk what reply row
+adds walk (Listing name options) (Listed page) None serving served within decided =
+    adds_page walk name options page serving served (listed_rows (rows_from walk.past.world.rows (head_key goods [])) walk.past.world.rows page (rows_from-first walk.past.world.rows serving.in_table) decided)
+adds walk (Listing name options) (Listed page) (Some row) serving served within decided = absurd decided
+adds walk (Listing name options) (Changed tick) row serving served within decided = absurd decided
+adds walk (Listing name options) (Refusal Memory) None serving served within decided = adds_denial walk (Listing name options) serving served
+adds walk (Listing name options) (Refusal Memory) (Some row) serving served within decided = absurd decided
+adds walk (Listing name options) (Refusal (Op refusal)) row serving served within decided = absurd decided
+adds walk (Writing group) (Listed page) row serving served within decided = absurd decided
+adds walk (Writing group) (Changed tick) None serving served within decided = absurd decided
+adds walk (Writing group) (Changed tick) (Some row) serving served within decided =
+    let room = not_beyond (length walk.past.world.rows) walk.moment walk.next_tick group within in
+    adds_row walk group tick row serving served decided.0 (omega (arith, room.1, decided.0)) (subst (λ (t : ℕ). Writes walk.past.world.rows t group row) (sym decided.0) decided.1)
+adds walk (Writing group) (Refusal Memory) None serving served within decided = adds_denial walk (Writing group) serving served
+adds walk (Writing group) (Refusal Memory) (Some row) serving served within decided = absurd decided
+adds walk (Writing group) (Refusal (Op refusal)) None serving served within decided = adds_refusal walk group refusal serving served decided
+adds walk (Writing group) (Refusal (Op refusal)) (Some row) serving served within decided = absurd decided
+
+-- the rows stay those of the one table, and no more than it may have
+pub rows_then-serve : (walk : Walk) (what : Ask) (reply : Reply) (row : Option RowView) → IsServing walk → (IsUnserved walk what → ⊥)
+    → IsDecided walk.past.world.rows (max walk.moment walk.next_tick) what reply row
+    → AllByRecursion (λ r. r.key.table ≡ goods) (rows_then walk.past.world.rows row) × (length (rows_then walk.past.world.rows row) ≤ most_rows)
+rows_then-serve walk what reply None serving within decided = (serving.in_table, serving.few)
+rows_then-serve walk (Writing group) (Changed tick) (Some row) serving within decided =
+    let room = not_beyond (length walk.past.world.rows) walk.moment walk.next_tick group within in
+    let writes : Writes walk.past.world.rows (max walk.moment walk.next_tick) group row = decided.1 in
+    let absent : row_at walk.past.world.rows row.key ≡ None = rw writes.key writes.absent in
+    let table : row.key.table ≡ goods = ap (λ (k : Key). k.table) writes.key in
+    (recursion_from_All (λ (r : RowView). r.key.table ≡ goods) (with_row walk.past.world.rows row)
+        (All-with_row (λ r. r.key.table ≡ goods) walk.past.world.rows row (All-from_recursion (λ (r : RowView). r.key.table ≡ goods) walk.past.world.rows serving.in_table) table),
+     let longer = length-with_row walk.past.world.rows row absent in omega (arith, longer, room.0))
+rows_then-serve walk (Writing group) (Listed page) (Some row) serving within decided = absurd decided
+rows_then-serve walk (Writing group) (Refusal Memory) (Some row) serving within decided = absurd decided
+rows_then-serve walk (Writing group) (Refusal (Op refusal)) (Some row) serving within decided = absurd decided
+rows_then-serve walk (Listing name options) (Listed page) (Some row) serving within decided = absurd decided
+rows_then-serve walk (Listing name options) (Changed tick) (Some row) serving within decided = absurd decided
+rows_then-serve walk (Listing name options) (Refusal Memory) (Some row) serving within decided = absurd decided
+rows_then-serve walk (Listing name options) (Refusal (Op refusal)) (Some row) serving within decided = absurd decided
+
+-- a decided request leaves a store that is served
+pub serving_after : (walk : Walk) (event : Scheduled) (what : Ask) (reply : Reply) (row : Option RowView) → IsServing walk → IsServedAsk what → (IsUnserved walk what → ⊥)
+    → IsDecided walk.past.world.rows (max walk.moment walk.next_tick) what reply row → IsServing (walk_after walk event (entries_for walk.number walk.moment what reply))
+unfolding walk_after
+serving_after walk event what reply row serving served within decided =
+    let added = adds walk what reply row serving served within decided in
+    let kept = rows_then-serve walk what reply row serving within decided in
+    record {
+      in_table = rw added.rows kept.0;
+      few = rw added.rows kept.1;
+      floors = rw added.next added.floors;
+      names = added.names;
+      bounds = added.bounds;
+    }

@@ -1,9 +1,10 @@
 -- What a session keeps of a walk, what a request comes to, and what one step does.
 use Rattle.std.specs.Prelude.{◌≡◌, ℕ, ◌+◌, ◌≤◌, max, List, [], ◌∷◌, ◌++◌, length, codes, Option, Some, None, Result, Ok, Err, vec_items, ⊤}
 use Rattle.std.specs.List.{AllByRecursion}
+use Rattle.tab_keys.specs.Order.{head_key}
 use Rattle.tab_keys.specs.declared.bounds.Bound.TheVariants.{At, End}
 use Rattle.tab_edm.specs.Entities.{EntityView}
-use Rattle.tab_rows.specs.Rows.{RowView, row_at, with_row}
+use Rattle.tab_rows.specs.Rows.{RowView, row_at, rows_from, with_row}
 use Rattle.tab_history.specs.Groups.{ItemView, item_key}
 use Rattle.tab_history.specs.World.{IsNextTick}
 use Rattle.tab_history.specs.Legality.{Legal}
@@ -70,7 +71,7 @@ pub record Collides (rows : List RowView) (group : List ItemView) (refusal : OpR
 
 -- what a request comes to over these rows: its reply, and the row that it writes
 abbrev pub IsDecided : List RowView → ℕ → Ask → Reply → Option RowView → Type 0
-IsDecided rows tick (Listing name options) (Listed page) None = page ≡ record { rows = rows; next = None; end = End }
+IsDecided rows tick (Listing name options) (Listed page) None = page ≡ record { rows = rows_from rows (head_key goods []); next = None; end = End }
 IsDecided rows tick (Writing group) (Changed given) (Some row) = (given ≡ tick) × Writes rows tick group row
 IsDecided rows tick (Writing group) (Refusal (Op refusal)) None = Collides rows group refusal
 IsDecided rows tick what (Refusal Memory) None = ⊤

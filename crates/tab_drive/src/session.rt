@@ -1,14 +1,15 @@
 ghost use Rattle.std.specs.Prelude.{◌≡◌, ◌+◌, ◌-◌, ◌^◌, ◌<◌, ◌≤◌, ◌↔◌, max, List, [], ◌∷◌, ◌++◌, IfOk, OnOk, OnErr, IsErrOf, IsTrue, IsSome, OnSome, Some, None, vec_len, vec_capacity, length};
-ghost use Rattle.tab_rows.specs.Rows.{RowView};
+ghost use Rattle.tab_rows.specs.Rows.{RowView, rows_from};
+ghost use Rattle.tab_keys.specs.Order.{head_key};
 ghost use Rattle.tab_history.specs.declared.entries.Entry.{Entry};
 ghost use Rattle.tab_drive.specs.Walk.{Walk, first_walk, opening, IsBeyond, IsOutOfForm, name_of, reply_outcome};
 ghost use Rattle.tab_service.specs.Replies.{Suits, reply_text};
 ghost use Rattle.tab_edm.specs.declared.TheConstants.{GREATEST};
 ghost use Rattle.tab_drive.specs.Outgoing.{outgoing_text};
-ghost use Rattle.tab_drive.specs.Sessions.{Keeps, Stepped, Replied, IsOutOfFormEvent, IsServedAsk, IsDecided, entry_of, entries_for, rows_then, next_then};
+ghost use Rattle.tab_drive.specs.Sessions.{goods, Keeps, Stepped, Replied, IsOutOfFormEvent, IsServedAsk, IsDecided, entry_of, entries_for, rows_then, next_then};
 
 use std::alloc::Global;
-use tab_edm::GREATEST;
+use tab_edm::{Entity, GREATEST};
 use tab_history::{Ask, Bounds, Denied, Entry, Group, Op, OpRefused, Page, PageRows, Reply};
 use tab_keys::{Bound, Key, KeyText, Memory, TableName};
 use tab_rows::{Row, Rows};
@@ -138,37 +139,48 @@ impl Session {
             return Err(Memory);
         }
         let name = name_of(&request.ask).try_copy(alloc)?;
-        let decided = self.decide(alloc, &request.ask);
-        let outgoing = outgoing_for(alloc, &request, &decided.reply)?;
+        let (decided, outgoing) = self.plan(alloc, &request)?;
         self.record(name, request.ask, decided);
         Ok(outgoing)
     }
 
-    /// Decides a request without changing what is kept, but for the room for a row.
-    fn decide(&mut self, alloc: Global, ask: &Ask) -> Decided
-        requires served { IsServedAsk ask.now }
-        requires within { IsBeyond (length self.old.rows.rows) self.old.moment self.old.next_tick ask.now → ⊥ }
-        ensures decided { IsDecided self.old.rows.rows (max self.old.moment self.old.next_tick) ask.now result.reply result.row }
+    /// What a request comes to and gives to be written. Nothing that is kept changes, but for the room for a row.
+    fn plan(&mut self, alloc: Global, request: &Request) -> Result<(Decided, Outgoing), Memory>
+        requires served { IsServedAsk request.now.ask }
+        requires within { IsBeyond (length self.old.rows.rows) self.old.moment self.old.next_tick request.now.ask → ⊥ }
+        ensures decided { IfOk result (λ plan. IsDecided self.old.rows.rows (max self.old.moment self.old.next_tick) request.now.ask plan.0.reply plan.0.row) }
+        ensures text { IfOk result (λ plan. outgoing_text plan.1 ≡ reply_outcome (reply_text request.now plan.0.reply)) }
         ensures rows { self.new.rows.rows ≡ self.old.rows.rows }
-        ensures room { OnSome result.row (0 < self.new.rows.spare) }
+        ensures room { IfOk result (λ plan. OnSome plan.0.row (0 < self.new.rows.spare)) }
         ensures same { self.new ≡ record self.old { rows = self.new.rows } }
     {
-        let decided = match ask {
+        match self.decide(alloc, &request.ask) {
+            Ok(decided) => {
+                let bytes = reply_bytes(alloc, request, &decided.reply)?;
+                Ok((decided, Outgoing::Reply(ReplyBytes::new(bytes))))
+            }
+            Err(_) => Ok((denied(), Outgoing::OutOfMemory)),
+        }
+    }
+
+    /// Decides a request without changing what is kept, but for the room for a row.
+    fn decide(&mut self, alloc: Global, ask: &Ask) -> Result<Decided, Memory>
+        requires served { IsServedAsk ask.now }
+        requires within { IsBeyond (length self.old.rows.rows) self.old.moment self.old.next_tick ask.now → ⊥ }
+        ensures decided { IfOk result (λ decided. IsDecided self.old.rows.rows (max self.old.moment self.old.next_tick) ask.now decided.reply decided.row) }
+        ensures rows { self.new.rows.rows ≡ self.old.rows.rows }
+        ensures room { IfOk result (λ decided. OnSome decided.row (0 < self.new.rows.spare)) }
+        ensures same { self.new ≡ record self.old { rows = self.new.rows } }
+    {
+        match ask {
             Ask::Page { .. } => self.decide_page(alloc),
             Ask::Change { group } => self.decide_change(alloc, group),
-        };
-        match decided {
-            Ok(decided) => decided,
-            Err(_) => Decided {
-                reply: Reply::Denied(Denied::Memory),
-                row: None,
-            },
         }
     }
 
     /// The page of all rows.
     fn decide_page(&self, alloc: Global) -> Result<Decided, Memory>
-        ensures { IfOk result (λ decided. (decided.row ≡ None) × (decided.reply ≡ Reply.Listed (record { rows = self.now.rows.rows; next = None; end = Bound.End }))) }
+        ensures { IfOk result (λ decided. (decided.row ≡ None) × (decided.reply ≡ Reply.Listed (record { rows = rows_from self.now.rows.rows (head_key goods []); next = None; end = Bound.End }))) }
     {
         let first = Key {
             table: GOODS,
@@ -207,8 +219,7 @@ impl Session {
                 row: None,
             });
         }
-        let Op::Insert(entity) = &item.op;
-        let Ok(entity) = entity.try_copy(alloc) else {
+        let Ok(entity) = given_entity(&item.op).try_copy(alloc) else {
             return Err(Memory);
         };
         self.rows.reserve(1)?;
@@ -251,6 +262,25 @@ impl Session {
 struct Decided {
     reply: Reply,
     row: Option<Row>,
+}
+
+/// A request for which no memory was found.
+fn denied() -> Decided
+    ensures reply { result.reply ≡ Reply.Denied Denied.Memory }
+    ensures row { result.row ≡ None }
+{
+    Decided {
+        reply: Reply::Denied(Denied::Memory),
+        row: None,
+    }
+}
+
+/// The entity that an operation gives.
+fn given_entity(op: &Op) -> &Entity
+    ensures { op.now ≡ Op.Insert result.now }
+{
+    let Op::Insert(entity) = op;
+    entity
 }
 
 /// The table that a request asks about.
@@ -296,19 +326,6 @@ fn entry_for(number: u64, moment: u64, ask: Ask, reply: Reply) -> Entry
             ask: number,
             why: Denied::Memory,
         },
-    }
-}
-
-/// What a reply gives to be written. Want of memory gives a reply that needs none.
-fn outgoing_for(alloc: Global, request: &Request, reply: &Reply) -> Result<Outgoing, Memory>
-    requires { Suits request.now reply.now }
-    ensures { IfOk result (λ outgoing. outgoing_text outgoing ≡ reply_outcome (reply_text request.now reply.now)) }
-{
-    match reply {
-        Reply::Denied(Denied::Memory) => Ok(Outgoing::OutOfMemory),
-        _ => Ok(Outgoing::Reply(ReplyBytes::new(reply_bytes(
-            alloc, request, reply,
-        )?))),
     }
 }
 
