@@ -1,11 +1,10 @@
 -- Decimal digits with no sign and no leading zero spell each number once.
-use Rattle.std.proofs.Common.{◌≡◌, ◌≢◌, ℕ, zero, suc, ◌^◌, ◌<◌, ◌≤◌, List, [], ◌∷◌, length, get_or, Result, Ok, Err, ap, arith, refl, sym, ◌∙◌, decimal}
+use Rattle.std.proofs.Common.{◌≡◌, ◌≢◌, ℕ, zero, suc, ◌^◌, ◌<◌, ◌≤◌, List, [], ◌∷◌, length, get_or, Result, Ok, Err, ap, arith, sym, ◌∙◌, decimal}
 use Rattle.std.specs.Prelude.{Option, IfSome, IsNone}
 use Rattle.std.specs.Result.{OkIff, result_ok}
 use Rattle.std.specs.Str.{IsUtf8}
 use Rattle.std.specs.Str.Parse.{AllDigits, digits_value, ParsesUnsigned}
 use Rattle.std.proofs.lemmas.Fmt.{decimal_is_IsNumeral, decimal_nonempty, decimal-digits_value, first_decimal, length-decimal-le, parse-decimal, IsAscii-decimal}
-use Rattle.std.proofs.lemmas.Result.{OkIff-at_ok}
 use Rattle.std.proofs.lemmas.Str.{IsUtf8-from_ascii}
 use Rattle.std.proofs.lemmas.Str.Parse.{IsNumeralModel, numerals_by_value, tells_digits, digit_from_value, digit_at, parse_plain}
 use Rattle.tab_drive.specs.Lines.{IsLine}

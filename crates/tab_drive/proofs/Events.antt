@@ -1,10 +1,10 @@
 -- What the reading of a line, and of the message that it calls, tells of the event.
-use Rattle.std.proofs.Common.{◌≡◌, ◌≢◌, ℕ, ◌+◌, ◌^◌, ◌<◌, ◌≤◌, List, [], ◌∷◌, ◌++◌, length, Option, ap, refl, sym, subst, ◌∙◌, arith, append_assoc}
+use Rattle.std.proofs.Common.{◌≡◌, ◌≢◌, ℕ, ◌≤◌, List, [], ◌∷◌, ◌++◌, length, Option, ap, refl, sym, subst, ◌∙◌, arith, append_assoc}
 use Rattle.std.specs.Io.KnownBytes.{Consumes}
 use Rattle.std.proofs.KnownBytes.{Consumes-trans}
 use Rattle.tab_drive.specs.Schedule.{Fits, IsNoEvent, end_line, line_feed, longest_message, spelling}
-use Rattle.tab_drive.specs.Lines.{IsLine, IsInRange, line_text}
-use Rattle.tab_drive.specs.Reading.{HasNoLine, HasNoMessage, IfTold, IsOpenLine, IsOpenMessage, IsWithinOne, ReadsLine, ReadsMessage, Took, TookPart}
+use Rattle.tab_drive.specs.Lines.{IsInRange, line_text}
+use Rattle.tab_drive.specs.Reading.{HasNoMessage, IfTold, IsOpenLine, IsOpenMessage, ReadsLine, ReadsMessage, Took, TookPart}
 use Rattle.tab_drive.specs.Reading.IsWithinOne.{in_line, at_line_end, behind_call}
 use Rattle.tab_drive.specs.declared.lines.Line.{Line}
 use Rattle.tab_drive.specs.declared.lines.Line.TheVariants.{End as EndLine, Now as NowLine, Call as CallLine}

@@ -10,3 +10,5 @@ pub mod Spellings
 pub mod Told
 pub mod WalkSteps
 pub mod SessionSteps
+pub mod Turns
+pub mod Schedules

@@ -1,5 +1,5 @@
 -- How bytes are cut at the first line feed, and that a line's text says one thing.
-use Rattle.std.proofs.Common.{◌≡◌, ◌≢◌, ℕ, ◌+◌, ◌^◌, ◌<◌, ◌≤◌, List, [], ◌∷◌, ◌++◌, length, length-append, get_or, drop, ap, refl, sym, ◌∙◌, arith, decimal, codes}
+use Rattle.std.proofs.Common.{◌≡◌, ◌≢◌, ℕ, ◌^◌, ◌<◌, ◌≤◌, List, [], ◌∷◌, ◌++◌, length, length-append, get_or, drop, ap, refl, sym, ◌∙◌, arith, decimal, codes}
 use Rattle.std.proofs.lemmas.Fmt.{decimal_injective, length-decimal-le}
 use Rattle.tab_drive.specs.Schedule.{line_feed, longest_message}
 use Rattle.tab_drive.specs.Lines.{IsLine, IsInRange, line_text, longest_line}

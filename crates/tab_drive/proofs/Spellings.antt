@@ -1,7 +1,7 @@
 -- An event's spelling is one line and what its line calls: so no spelling begins another.
-use Rattle.std.proofs.Common.{◌≡◌, ◌≢◌, ℕ, ◌+◌, ◌^◌, ◌<◌, ◌≤◌, List, [], ◌∷◌, ◌++◌, length, ap, refl, sym, ◌∙◌, arith, decimal, codes, append_assoc}
+use Rattle.std.proofs.Common.{◌≡◌, ◌≢◌, ℕ, ◌<◌, ◌≤◌, List, [], ◌∷◌, ◌++◌, length, drop, ap, refl, sym, ◌∙◌, arith, append_assoc}
 use Rattle.tab_drive.specs.Schedule.{Fits, IsNoEvent, end_line, line_feed, longest_message, spelling}
-use Rattle.tab_drive.specs.Lines.{IsLine, IsInRange, line_text, longest_line}
+use Rattle.tab_drive.specs.Lines.{IsLine, IsInRange, line_text}
 use Rattle.tab_drive.specs.Reading.{HasNoLine, HasNoMessage}
 use Rattle.tab_drive.specs.declared.lines.Line.{Line}
 use Rattle.tab_drive.specs.declared.lines.Line.TheVariants.{End as EndLine, Now as NowLine, Call as CallLine}
@@ -71,3 +71,46 @@ no_event_no_message size bytes short no_message = record {
         let parts = same_line (Call message) (CallLine size) bytes rest fits short is in
         let sized : length message ≡ size = cc in
         no_message message rest sized (parts.1 ∙ append_assoc message (line_feed ∷ []) rest)
+
+-- ---- one spelling for each event, and none that begins another
+
+same_now : (a b : ℕ) → NowLine a ≡ NowLine b → a ≡ b
+same_now a b is = cc
+
+same_call : (a b : ℕ) → CallLine a ≡ CallLine b → a ≡ b
+same_call a b is = cc
+
+same_event : (a b : Scheduled) (x y : List ℕ) → line_for a ≡ line_for b → body_for a ++ x ≡ body_for b ++ y → (a ≡ b) × (x ≡ y)
+same_event (Now moment) (Now other) x y line body = (ap Now (same_now moment other line), body)
+same_event (Now moment) (Call message) x y line body = cc
+same_event (Call message) (Now moment) x y line body = cc
+same_event (Call message) (Call other) x y line body =
+    let parts =
+    split_length message other (line_feed ∷ x) (line_feed ∷ y) (same_call (length message) (length other) line)
+    (sym (append_assoc message (line_feed ∷ []) x) ∙ body ∙ append_assoc other (line_feed ∷ []) y)
+    in
+    (ap Call parts.0, ap (drop 1) parts.1)
+
+-- two events whose spellings begin the same bytes are one
+pub one_event : (a b : Scheduled) (x y : List ℕ) → Fits a → Fits b → spelling a ++ x ≡ spelling b ++ y → (a ≡ b) × (x ≡ y)
+one_event a b x y a_fits b_fits is =
+    let parts = same_line b (line_for a) (body_for a ++ x) y b_fits (in_range a a_fits) (sym (spelled a x) ∙ is) in
+    same_event a b x y parts.0 parts.1
+
+-- no event begins where the schedule ends, and the other way round
+pub event_not_end : (event : Scheduled) (rest more : List ℕ) → Fits event → spelling event ++ rest ≢ end_line ++ more
+event_not_end event rest more fits is = apart event (same_line event EndLine more rest fits tt (sym (is ∙ ended more))).0
+  where
+    apart : (event : Scheduled) → EndLine ≢ line_for event
+    apart (Now moment) line = cc
+    apart (Call message) line = cc
+
+-- no spelling is empty
+pub spelling_some : (event : Scheduled) → 0 < length (spelling event)
+unfolding spelling
+spelling_some (Now moment) = omega arith
+spelling_some (Call message) = omega arith
+
+pub end_line_some : 0 < length end_line
+unfolding end_line
+end_line_some = omega arith

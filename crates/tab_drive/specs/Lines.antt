@@ -1,5 +1,5 @@
 -- The lines of a schedule, without the line feed that ends each.
-use Rattle.std.specs.Prelude.{◌≢◌, ℕ, ◌<◌, ◌≤◌, ◌^◌, List, [], ◌∷◌, ◌++◌, length, codes, decimal}
+use Rattle.std.specs.Prelude.{◌≢◌, ℕ, ◌<◌, ◌≤◌, ◌^◌, List, [], ◌∷◌, ◌++◌, codes, decimal}
 use Rattle.tab_drive.specs.Schedule.{line_feed, longest_message}
 use Rattle.tab_drive.specs.declared.lines.Line.{Line}
 use Rattle.tab_drive.specs.declared.lines.Line.TheVariants.{End, Now, Call}

@@ -1,45 +1,78 @@
--- What a run of a schedule reads, writes and leaves as its history, by how it ended.
-use Rattle.std.specs.Prelude.{◌≡◌, ℕ, ◌+◌, ◌<◌, ◌≤◌, List, [], ◌∷◌, ◌++◌, length, take, codes, decimal, Option, Some, None}
-use Rattle.std.specs.Io.KnownBytes.{Consumes, Appends}
+-- What a run of a schedule reads, writes and leaves as its history, by how it stops.
+use Rattle.std.specs.Prelude.{◌≡◌, ℕ, ◌+◌, ◌<◌, ◌≤◌, ◌⊎◌, List, [], ◌∷◌, ◌++◌, length, take, codes, decimal, Option, Some, None}
+use Rattle.std.specs.Io.KnownBytes.{Consumes, Appends, Keeps as Kept}
 use Rattle.tab_outside.specs.Faults.{Rose}
+use Rattle.tab_outside.specs.Transfers.{TookFront}
+use Rattle.tab_history.specs.Legality.{Legal}
 use Rattle.tab_history.specs.declared.entries.Entry.{Entry}
-use Rattle.tab_drive.specs.Schedule.{end_line, IsNoEvent}
-use Rattle.tab_drive.specs.Walk.{Walk, Exchange, first_walk, opening, Follows, walk_after_all, bytes_of, entries_of, text_of, IsRefused}
+use Rattle.tab_drive.specs.Schedule.{spelling, Fits, end_line, IsNoEvent}
+use Rattle.tab_drive.specs.Reading.{IfTold}
+use Rattle.tab_drive.specs.Walk.{Walk, Exchange, first_walk, first_state, opening, last_number, Happens, Follows, walk_after, walk_after_all, bytes_of, entries_of, text_of, IsRefused}
+use Rattle.tab_drive.specs.Sessions.{Keeps}
+use Rattle.tab_drive.specs.declared.schedule.Scheduled.{Scheduled}
+use Rattle.tab_drive.specs.declared.session.Session.{Session}
+use Rattle.tab_drive.specs.declared.serving.Stop.{Stop}
+use Rattle.tab_drive.specs.declared.serving.Stop.TheVariants.{End, Refused, ReadFault, WriteFault, Memory}
 
--- a run's surroundings: what the source had and has left, what the sink had and has taken, and the sink's counts of
--- faults, each before and after
+-- what a source had and has left, and what a sink had and has taken
 pub record Traffic : Type 0 where
   pub left_before : Option (List ℕ)
   pub left : Option (List ℕ)
   pub taken_before : Option (List ℕ)
   pub taken : Option (List ℕ)
-  pub faults_before : ℕ
-  pub faults : ℕ
+
+-- ---- one event
+
+-- the exchange happened where the walk stands
+pub record Exchanged (account : List ℕ) (walk : Walk) (exchange : Exchange) (old new : Session) : Type 0 where
+  pub fits : Fits exchange.event
+  pub numbered : walk.number < last_number
+  pub happens : Happens account walk exchange.event exchange.entries exchange.text
+  pub legal : Legal walk.past exchange.entries
+  pub keeps : Keeps new (walk_after walk exchange.event exchange.entries)
+  pub history : new.history.items ≡ old.history.items ++ exchange.entries
+
+-- an event was read, taken and answered, and its text was written whole
+pub record Turned (account : List ℕ) (walk : Walk) (traffic : Traffic) (old new : Session) : Type 0 where
+  pub exchange : Exchange
+  pub exchanged : Exchanged account walk exchange old new
+  pub read : Consumes traffic.left_before traffic.left (spelling exchange.event)
+  pub written : Appends traffic.taken_before traffic.taken exchange.text
+
+-- its text was not written whole
+pub record TurnedShort (account : List ℕ) (walk : Walk) (traffic : Traffic) (old new : Session) : Type 0 where
+  pub exchange : Exchange
+  pub exchanged : Exchanged account walk exchange old new
+  pub read : Consumes traffic.left_before traffic.left (spelling exchange.event)
+  pub written : TookFront traffic.taken_before traffic.taken exchange.text
+
+-- bytes were taken from the source, and nothing else happened
+pub record TurnedIdle (P : List ℕ → Type 0) (traffic : Traffic) (old new : Session) : Type 0 where
+  pub part : List ℕ
+  pub are : P part
+  pub read : Consumes traffic.left_before traffic.left part
+  pub written : traffic.taken ≡ traffic.taken_before
+  pub history : new.history.items ≡ old.history.items
+
+-- at most one event, or less than a whole one
+abbrev pub IsOneAtMost : List ℕ → Type 0
+IsOneAtMost bytes = ((event : Scheduled) × (bytes ≡ spelling event)) ⊎ IsNoEvent bytes
+
+-- how a turn stopped the run
+abbrev pub StopsTurn : List ℕ → Walk → Traffic → Session → Session → Stop → Type 0
+StopsTurn account walk traffic old new End = TurnedIdle (λ part. part ≡ end_line) traffic old new
+StopsTurn account walk traffic old new Refused =
+    IfTold traffic.left_before (IsRefused account walk) × (traffic.taken ≡ traffic.taken_before) × (new.history.items ≡ old.history.items)
+StopsTurn account walk traffic old new ReadFault = TurnedIdle IsNoEvent traffic old new
+StopsTurn account walk traffic old new WriteFault = TurnedShort account walk traffic old new
+StopsTurn account walk traffic old new Memory = TurnedIdle IsOneAtMost traffic old new
+
+-- ---- a whole schedule
 
 -- the exchanges follow one another from the walk's beginning, and the history is the opening's entry and theirs
 pub record Ran (account : List ℕ) (moment : ℕ) (history : List Entry) (exchanges : List Exchange) : Type 0 where
   pub follows : Follows account (first_walk moment) exchanges
   pub acted : history ≡ opening ∷ entries_of exchanges
-
--- the sink took these bytes and then the line, or, where its count of faults rose, a front of the line
-pub record TookLine (traffic : Traffic) (text line : List ℕ) : Type 0 where
-  pub count : ℕ
-  pub within : count ≤ length line
-  pub whole : count < length line → Rose traffic.faults_before traffic.faults
-  pub written : Appends traffic.taken_before traffic.taken (text ++ take count line)
-
--- the lines that end a run
-abbrev pub usage_line : List ℕ
-usage_line = codes "usage: init / drive ACCOUNT KEY / load ACCOUNT COUNT / show\n"
-
-abbrev pub refused_line : ℕ → List ℕ
-refused_line number = codes "event " ++ decimal number ++ codes " refused\n"
-
-abbrev pub read_fault_line : List ℕ
-read_fault_line = codes "read fault\n"
-
-abbrev pub memory_line : List ℕ
-memory_line = codes "out of memory\n"
 
 -- the schedule was read up to its last line, and all of its texts were written
 pub record Finished (account : List ℕ) (moment : ℕ) (traffic : Traffic) (history : List Entry) (done : ℕ) : Type 0 where
@@ -50,23 +83,23 @@ pub record Finished (account : List ℕ) (moment : ℕ) (traffic : Traffic) (his
   pub counted : done ≡ length exchanges
 
 -- the event behind these exchanges is refused
-pub record Refused (account : List ℕ) (moment : ℕ) (traffic : Traffic) (history : List Entry) (done : ℕ) : Type 0 where
+pub record RefusedNext (account : List ℕ) (moment : ℕ) (traffic : Traffic) (history : List Entry) (done : ℕ) : Type 0 where
   pub exchanges : List Exchange
   pub ran : Ran account moment history exchanges
   pub behind : Option (List ℕ)
   pub read : Consumes traffic.left_before behind (bytes_of exchanges)
-  pub refused : (bytes : List ℕ) → behind ≡ Some bytes → IsRefused account (walk_after_all (first_walk moment) exchanges) bytes
-  pub written : TookLine traffic (text_of exchanges) (refused_line (length exchanges + 1))
+  pub refused : IfTold behind (IsRefused account (walk_after_all (first_walk moment) exchanges))
+  pub written : Appends traffic.taken_before traffic.taken (text_of exchanges)
   pub counted : done ≡ length exchanges
 
--- the source failed, and behind these exchanges no whole event was taken from it
-pub record Unread (account : List ℕ) (moment : ℕ) (traffic : Traffic) (history : List Entry) (done : ℕ) : Type 0 where
+-- behind these exchanges bytes were taken from the source that made no further exchange
+pub record LeftOff (P : List ℕ → Type 0) (account : List ℕ) (moment : ℕ) (traffic : Traffic) (history : List Entry) (done : ℕ) : Type 0 where
   pub exchanges : List Exchange
   pub ran : Ran account moment history exchanges
   pub part : List ℕ
-  pub partial : IsNoEvent part
+  pub are : P part
   pub read : Consumes traffic.left_before traffic.left (bytes_of exchanges ++ part)
-  pub written : TookLine traffic (text_of exchanges) read_fault_line
+  pub written : Appends traffic.taken_before traffic.taken (text_of exchanges)
   pub counted : done ≡ length exchanges
 
 -- the sink failed before it had the last exchange's text whole
@@ -80,11 +113,31 @@ pub record Unwritten (account : List ℕ) (moment : ℕ) (traffic : Traffic) (hi
   pub written : Appends traffic.taken_before traffic.taken (text_of exchanges ++ take count last.text)
   pub counted : done ≡ length exchanges
 
--- no memory was found: at most one event behind these exchanges was taken from the source, and it changed nothing
-pub record Starved (account : List ℕ) (moment : ℕ) (traffic : Traffic) (history : List Entry) (done : ℕ) : Type 0 where
-  pub exchanges : List Exchange
-  pub ran : Ran account moment history exchanges
-  pub part : List ℕ
-  pub read : Consumes traffic.left_before traffic.left (bytes_of exchanges ++ part)
-  pub written : TookLine traffic (text_of exchanges) memory_line
-  pub counted : done ≡ length exchanges
+-- how a schedule stopped
+abbrev pub Stops : List ℕ → ℕ → Traffic → List Entry → ℕ → Stop → Type 0
+Stops account moment traffic history done End = Finished account moment traffic history done
+Stops account moment traffic history done Refused = RefusedNext account moment traffic history done
+Stops account moment traffic history done ReadFault = LeftOff IsNoEvent account moment traffic history done
+Stops account moment traffic history done WriteFault = Unwritten account moment traffic history done
+Stops account moment traffic history done Memory = LeftOff IsOneAtMost account moment traffic history done
+
+-- ---- the last line
+
+abbrev pub usage_line : List ℕ
+usage_line = codes "usage: init / drive ACCOUNT KEY / load ACCOUNT COUNT / show\n"
+
+abbrev pub refused_line : ℕ → List ℕ
+refused_line number = codes "event " ++ decimal number ++ codes " refused\n"
+
+abbrev pub read_fault_line : List ℕ
+read_fault_line = codes "read fault\n"
+
+abbrev pub memory_line : List ℕ
+memory_line = codes "out of memory\n"
+
+-- the sink took the line, or, where its count of faults rose, a front of it
+pub record TookLine (before after : Option (List ℕ)) (faults_before faults : ℕ) (line : List ℕ) : Type 0 where
+  pub count : ℕ
+  pub within : count ≤ length line
+  pub whole : count < length line → Rose faults_before faults
+  pub written : Appends before after (take count line)

@@ -1,13 +1,16 @@
 //! Schedules of requests, and the top call `run`.
 #![tactic(auto)]
 
+mod commands;
 mod copies;
 mod lines;
 mod outgoing;
 mod reading;
 mod schedule;
+mod serving;
 mod session;
 
+pub use commands::{Ended, run};
 pub use outgoing::{Outgoing, write_outgoing, write_pieces};
 pub use reading::{NextEvent, Unread, next_event};
 pub use schedule::{RawMessage, Scheduled};

@@ -1,4 +1,4 @@
-ghost use Rattle.std.specs.Prelude.{◌≡◌, ℕ, ◌≤◌, IfOk, OnErr, IsErrOf, vec_items};
+ghost use Rattle.std.specs.Prelude.{◌≡◌, ◌≤◌, IfOk, OnErr, IsErrOf};
 ghost use Rattle.tab_drive.specs.Reading.{ReadsNext, TookPart, IfTold, Took, ReadsLine, HasNoLine, IsOpenLine, ReadsMessage, HasNoMessage, IsOpenMessage, unread_for};
 ghost use Rattle.tab_drive.specs.Schedule.{IsNoEvent};
 ghost use Rattle.tab_drive.specs.declared.reading.Unread.TheVariants.{Fault, Memory};
@@ -8,6 +8,9 @@ use crate::lines::{Line, parse_line};
 use crate::schedule::{RawMessage, Scheduled};
 use std::alloc::{AllocFailed, Global};
 use tab_outside::{Failed, FillRefused, Source, fill, read_byte};
+
+#[cfg(test)]
+mod tests;
 
 /// The longest line that a schedule may have, in bytes without its line feed.
 const LONGEST_LINE: usize = 16_384;
@@ -95,7 +98,9 @@ fn read_line<S: Source>(alloc: Global, source: &mut S) -> Result<Vec<u8>, Unread
 {
     let mut line = Vec::new(alloc);
     loop {
-        let byte = read_byte(source)?.ok_or(Unread::NoEvent)?;
+        let Some(byte) = read_byte(source)? else {
+            return Err(Unread::NoEvent);
+        };
         if byte == b'\n' {
             return Ok(line);
         }

@@ -1,4 +1,6 @@
-ghost use Rattle.std.specs.Prelude.{◌≡◌, vec_items};
+ghost use Rattle.std.specs.Prelude.{◌≡◌, ◌≢◌, ℕ, List, ◌++◌, vec_items};
+ghost use Rattle.tab_drive.specs.Schedule.{Fits, end_line, spelling};
+ghost use Rattle.tab_drive.specs.declared.schedule.Scheduled.{Scheduled as TheEvent};
 
 use std::marker::Model;
 
@@ -38,3 +40,9 @@ pub enum Scheduled {
     /// A client's message comes, and is answered.
     Call { message: RawMessage },
 }
+
+/// No event has two spellings, no spelling begins another's, and none begins the schedule's last line.
+pub fn one_spelling()
+    ensures event { (a b : TheEvent) (x y : List ℕ) → Fits a → Fits b → spelling a ++ x ≡ spelling b ++ y → (a ≡ b) × (x ≡ y) }
+    ensures end { (event : TheEvent) (x y : List ℕ) → Fits event → spelling event ++ x ≢ end_line ++ y }
+{}

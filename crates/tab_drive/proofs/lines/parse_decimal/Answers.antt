@@ -1,4 +1,4 @@
-use Rattle.std.proofs.Common.{◌≡◌, ◌<◌, length, arith, rules}
+use Rattle.std.proofs.Common.{arith}
 use Rattle.std.proofs.lemmas.Grind.{common_steps}
 use Rattle.tab_drive.proofs.Decimals.{none_spells_none, sign_spells_none, zero_spells_none, decimal_utf8, parsed_decimal, unparsed_decimal}
 use Rattle.tab_drive.proofs.lines.parse_decimal.Goals as goal

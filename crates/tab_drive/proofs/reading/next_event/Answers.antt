@@ -1,8 +1,5 @@
-use Rattle.std.proofs.Common.{Err, refl, ap, sym, ◌∙◌, ◌≡◌, ◌≢◌, ◌≤◌}
-use Rattle.tab_drive.specs.Lines.{IsInRange, line_text}
-use Rattle.tab_drive.specs.Schedule.{longest_message}
-use Rattle.tab_drive.specs.declared.lines.Line.{Line}
-use Rattle.tab_drive.specs.declared.lines.Line.TheVariants.{Call}
+use Rattle.std.proofs.Common.{Err, refl, ap, sym, ◌∙◌}
+use Rattle.tab_drive.specs.Lines.{line_text}
 use Rattle.tab_drive.proofs.Events.{part_behind_call, part_of_line, part_to_line_end, reads_call, reads_end, reads_now, refused_call, refused_line}
 use Rattle.tab_drive.proofs.Exits.{on_err, passed_on}
 use Rattle.tab_drive.proofs.Spellings.{no_event_no_line}

@@ -1,6 +1,5 @@
-use Rattle.std.proofs.Common.{◌≡◌, length, arith, ◌∙◌, sym}
+use Rattle.std.proofs.Common.{◌≡◌, length, arith, sym}
 use Rattle.tab_drive.proofs.OpenMessages.{moved_all, no_message_next, open_message_next}
-use Rattle.tab_drive.specs.Reading.{HasNoMessage, IsOpenMessage, IfTold, Took}
 use Rattle.tab_drive.proofs.reading.read_message.Goals as goal
 
 pub returns-else-eq-clause-refused : goal.returns-else-eq-clause-refused

@@ -1,0 +1,22 @@
+use Rattle.std.proofs.Common.{◌≡◌, ◌<◌, ◌≤◌, refl, arith}
+use Rattle.tab_drive.specs.Walk.{last_number}
+use Rattle.tab_drive.proofs.Turns.{turned, turned_short, refused_number, refused_form}
+use Rattle.tab_drive.proofs.serving.turn.Goals as goal
+
+pub returns-then-session-clause-stopped : goal.returns-then-session-clause-stopped
+returns-then-session-clause-stopped g c walk keeps =
+    let read = rw c.in-Ok-Event.field-0-is at c.in-Ok-Event.ensures.read in
+    let spent : last_number ≤ walk.number = omega (arith, keeps.number, c.if-session.true) in
+    (refused_number c.args.account.now walk _ _ c.in-Ok-Event.event read.0 spent read.1, refl, refl)
+
+pub returns-in-Ok-write_outgoing-clause-turned : goal.returns-in-Ok-write_outgoing-clause-turned
+returns-in-Ok-write_outgoing-clause-turned g c walk keeps =
+    let read = rw c.in-Ok-Event.field-0-is at c.in-Ok-Event.ensures.read in
+    let numbered : walk.number < last_number = omega (arith, keeps.number) in
+    turned c.args.account.now walk _ c.in-Ok-Event.event _ c.args.session.now c.step.new.self read.0 numbered (c.in-Ok.ensures.ok walk keeps) read.1 c.in-Ok-write_outgoing.ensures.written
+
+pub returns-clause-stopped : goal.returns-clause-stopped
+returns-clause-stopped g c walk keeps =
+    let read = rw c.in-Ok-Event.field-0-is at c.in-Ok-Event.ensures.read in
+    let numbered : walk.number < last_number = omega (arith, keeps.number) in
+    turned_short c.args.account.now walk _ c.in-Ok-Event.event _ c.args.session.now c.step.new.self read.0 numbered (c.in-Ok.ensures.ok walk keeps) read.1 c.in-Err.ensures.written

@@ -1,0 +1,61 @@
+-- The words of a run, and how a run ends.
+use Rattle.std.specs.Prelude.{◌≡◌, ℕ, ◌+◌, ◌⊎◌, List, [], ◌∷◌, length, Bool, true, ◌&&◌, ◌||◌, nat_le, codes, Option}
+use Rattle.std.specs.List.{list_all}
+use Rattle.tab_history.specs.declared.entries.Entry.{Entry}
+use Rattle.tab_drive.specs.Runs.{Traffic, Stops, TookLine, refused_line, read_fault_line, memory_line}
+use Rattle.tab_drive.specs.declared.serving.Stop.{Stop}
+use Rattle.tab_drive.specs.declared.serving.Stop.TheVariants.{End, Refused, ReadFault, WriteFault, Memory}
+
+-- a lower-case ASCII letter or a digit
+abbrev pub is_account_byte : ℕ → Bool
+is_account_byte b = (nat_le 97 b && nat_le b 122) || (nat_le 48 b && nat_le b 57)
+
+-- 3 to 24 lower-case ASCII letters and digits
+unfoldable pub is_account : List ℕ → Bool
+is_account name = nat_le 3 (length name) && nat_le (length name) 24 && list_all is_account_byte name
+
+-- the words `drive ACCOUNT -`, of an open account
+pub record IsDrive (words : List (List ℕ)) (account : List ℕ) : Type 0 where
+  pub spelled : words ≡ codes "drive" ∷ account ∷ codes "-" ∷ []
+  pub named : is_account account ≡ true
+
+-- the words are none of the commands'
+abbrev pub IsNoCommand : List (List ℕ) → Type 0
+IsNoCommand words = (account : List ℕ) → IsDrive words account → ⊥
+
+-- the exit status of a schedule that stopped so
+abbrev pub status_of : Stop → ℕ
+status_of End = 0
+status_of Refused = 2
+status_of ReadFault = 3
+status_of WriteFault = 4
+status_of Memory = 7
+
+-- its last line
+abbrev pub line_of : Stop → ℕ → List ℕ
+line_of End done = []
+line_of Refused done = refused_line (done + 1)
+line_of ReadFault done = read_fault_line
+line_of WriteFault done = []
+line_of Memory done = memory_line
+
+-- a schedule was served up to its stop, and its last line was written
+pub record Drove (account : List ℕ) (moment : ℕ) (traffic : Traffic) (faults_before faults : ℕ) (status : ℕ) (history : List Entry) (done : ℕ) : Type 0 where
+  pub stop : Stop
+  pub status_is : status ≡ status_of stop
+  pub middle : Option (List ℕ)
+  pub stops : Stops account moment (record traffic { taken = middle }) history done stop
+  pub line : TookLine middle traffic.taken faults_before faults (line_of stop done)
+
+-- nothing was read, and one line was written
+pub record SaidOnly (traffic : Traffic) (faults_before faults : ℕ) (line : List ℕ) (history : List Entry) (done : ℕ) : Type 0 where
+  pub unread : traffic.left ≡ traffic.left_before
+  pub line : TookLine traffic.taken_before traffic.taken faults_before faults line
+  pub history_is : history ≡ []
+  pub counted : done ≡ 0
+
+-- how the command `drive` ends: by its schedule's stop, or at once, where no memory was found to open a store
+abbrev pub Drives : List ℕ → ℕ → Traffic → ℕ → ℕ → ℕ → List Entry → ℕ → Type 0
+Drives account moment traffic faults_before faults status history done =
+    Drove account moment traffic faults_before faults status history done
+    ⊎ ((status ≡ 7) × SaidOnly traffic faults_before faults memory_line history done)

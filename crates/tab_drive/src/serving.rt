@@ -1,0 +1,108 @@
+ghost use Rattle.std.specs.Prelude.{◌≡◌, ◌≤◌, IfNone, IfSome, IfOk, OnErr, Some};
+ghost use Rattle.tab_outside.specs.Faults.{Rose};
+ghost use Rattle.tab_history.specs.Legality.{Legal};
+ghost use Rattle.tab_drive.specs.Walk.{Walk, first_state};
+ghost use Rattle.tab_drive.specs.Sessions.{Keeps};
+ghost use Rattle.tab_drive.specs.Runs.{Turned, StopsTurn, Stops};
+
+use std::alloc::Global;
+use tab_history::Entry;
+use tab_keys::Memory;
+use tab_outside::{Sink, Source};
+
+use crate::outgoing::write_outgoing;
+use crate::reading::{NextEvent, Unread, next_event};
+use crate::session::{Session, StepRefused};
+
+/// Why a schedule was read no further.
+#[derive(Clone, Copy, Debug, PartialEq, Eq)]
+pub enum Stop {
+    /// Its last line was read.
+    End,
+    /// The next event is refused.
+    Refused,
+    /// The source failed.
+    ReadFault,
+    /// The sink failed.
+    WriteFault,
+    /// No memory was found.
+    Memory,
+}
+
+/// Reads the next event, takes it, and writes what it gives.
+pub fn turn<S: Source, K: Sink>(
+    alloc: Global,
+    account: &str,
+    session: &mut Session,
+    input: &mut S,
+    output: &mut K,
+) -> Option<Stop>
+    ensures turned { (walk : Walk) → Keeps session.old walk → IfNone result (Turned account.now walk
+        (record { left_before = S.left input.old; left = S.left input.new; taken_before = K.taken output.old; taken = K.taken output.new }) session.old session.new) }
+    ensures stopped { (walk : Walk) → Keeps session.old walk → IfSome result (StopsTurn account.now walk
+        (record { left_before = S.left input.old; left = S.left input.new; taken_before = K.taken output.old; taken = K.taken output.new }) session.old session.new) }
+    ensures read_fault { result ≡ Some Stop.ReadFault → Rose (S.faults input.old) (S.faults input.new) }
+    ensures write_fault { result ≡ Some Stop.WriteFault → Rose (K.faults output.old) (K.faults output.new) }
+    ensures read_later { S.faults input.old ≤ S.faults input.new }
+    ensures write_later { K.faults output.old ≤ K.faults output.new }
+{
+    let event = match next_event(alloc, input) {
+        Ok(NextEvent::Event(event)) => event,
+        Ok(NextEvent::End) => return Some(Stop::End),
+        Err(Unread::NoEvent) => return Some(Stop::Refused),
+        Err(Unread::Fault) => return Some(Stop::ReadFault),
+        Err(Unread::Memory) => return Some(Stop::Memory),
+    };
+    if session.number == u64::MAX {
+        return Some(Stop::Refused);
+    }
+    let outgoing = match session.step(alloc, account, event) {
+        Ok(outgoing) => outgoing,
+        Err(StepRefused::OutOfForm) => return Some(Stop::Refused),
+        Err(StepRefused::Memory) => return Some(Stop::Memory),
+    };
+    match write_outgoing(output, &outgoing) {
+        Ok(()) => None,
+        Err(_) => Some(Stop::WriteFault),
+    }
+}
+
+/// Where a schedule stopped: why, how many of its events were answered whole, and the history.
+#[derive(Drop)]
+pub struct Served {
+    pub stop: Stop,
+    pub done: u64,
+    pub history: Vec<Entry>,
+}
+
+/// Opens a store and reads a schedule to its end, or up to what stops it.
+pub fn serve<S: Source, K: Sink>(
+    alloc: Global,
+    account: &str,
+    moment: u64,
+    input: &mut S,
+    output: &mut K,
+) -> Result<Served, Memory>
+    ensures stops { IfOk result (λ served. Stops account.now moment
+        (record { left_before = S.left input.old; left = S.left input.new; taken_before = K.taken output.old; taken = K.taken output.new }) served.history.items served.done served.stop) }
+    ensures legal { IfOk result (λ served. Legal first_state served.history.items) }
+    ensures read_fault { IfOk result (λ served. served.stop ≡ Stop.ReadFault → Rose (S.faults input.old) (S.faults input.new)) }
+    ensures write_fault { IfOk result (λ served. served.stop ≡ Stop.WriteFault → Rose (K.faults output.old) (K.faults output.new)) }
+    ensures unread { OnErr result (S.left input.new ≡ S.left input.old) }
+    ensures unwritten { OnErr result (K.taken output.new ≡ K.taken output.old) }
+    ensures read_later { S.faults input.old ≤ S.faults input.new }
+    ensures write_later { K.faults output.old ≤ K.faults output.new }
+{
+    let mut session = Session::open(alloc, moment)?;
+    let mut done = 0;
+    loop {
+        if let Some(stop) = turn(alloc, account, &mut session, input, output) {
+            return Ok(Served {
+                stop,
+                done,
+                history: session.history,
+            });
+        }
+        done += 1;
+    }
+}
