@@ -12,3 +12,4 @@ pub mod WalkSteps
 pub mod SessionSteps
 pub mod Turns
 pub mod Schedules
+pub mod Words

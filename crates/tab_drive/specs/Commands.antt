@@ -1,5 +1,5 @@
 -- The words of a run, and how a run ends.
-use Rattle.std.specs.Prelude.{◌≡◌, ℕ, ◌+◌, ◌⊎◌, List, [], ◌∷◌, length, Bool, true, ◌&&◌, ◌||◌, nat_le, codes, Option}
+use Rattle.std.specs.Prelude.{◌≡◌, ℕ, ◌+◌, ◌⊎◌, List, [], ◌∷◌, length, Bool, true, false, ◌&&◌, ◌||◌, nat_lt, nat_le, if◌then◌else◌, codes, Option}
 use Rattle.std.specs.List.{list_all}
 use Rattle.tab_history.specs.declared.entries.Entry.{Entry}
 use Rattle.tab_drive.specs.Runs.{Traffic, Stops, TookLine, refused_line, read_fault_line, memory_line}
@@ -12,7 +12,7 @@ is_account_byte b = (nat_le 97 b && nat_le b 122) || (nat_le 48 b && nat_le b 57
 
 -- 3 to 24 lower-case ASCII letters and digits
 unfoldable pub is_account : List ℕ → Bool
-is_account name = nat_le 3 (length name) && nat_le (length name) 24 && list_all is_account_byte name
+is_account name = if nat_lt (length name) 3 then false else (if nat_lt 24 (length name) then false else list_all is_account_byte name)
 
 -- the words `drive ACCOUNT -`, of an open account
 pub record IsDrive (words : List (List ℕ)) (account : List ℕ) : Type 0 where
@@ -48,9 +48,9 @@ pub record Drove (account : List ℕ) (moment : ℕ) (traffic : Traffic) (faults
   pub line : TookLine middle traffic.taken faults_before faults (line_of stop done)
 
 -- nothing was read, and one line was written
-pub record SaidOnly (traffic : Traffic) (faults_before faults : ℕ) (line : List ℕ) (history : List Entry) (done : ℕ) : Type 0 where
+pub record SaidOnly (traffic : Traffic) (faults_before faults : ℕ) (said : List ℕ) (history : List Entry) (done : ℕ) : Type 0 where
   pub unread : traffic.left ≡ traffic.left_before
-  pub line : TookLine traffic.taken_before traffic.taken faults_before faults line
+  pub line : TookLine traffic.taken_before traffic.taken faults_before faults said
   pub history_is : history ≡ []
   pub counted : done ≡ 0
 

@@ -1,9 +1,10 @@
 ghost use Rattle.std.specs.Prelude.{◌≡◌, ◌↔◌, ◌<◌, ◌-◌, ◌^◌, ℕ, List, [], ◌≤◌, map, flat_map, string_bytes, MatchOption};
+ghost use Rattle.std.specs.List.{list_all};
 ghost use Rattle.tab_outside.specs.Faults.{Rose};
 ghost use Rattle.tab_history.specs.Legality.{Legal};
 ghost use Rattle.tab_drive.specs.Walk.{first_state};
 ghost use Rattle.tab_drive.specs.Runs.{TookLine, usage_line};
-ghost use Rattle.tab_drive.specs.Commands.{IsDrive, IsNoCommand, is_account, status_of, line_of, Drives, SaidOnly};
+ghost use Rattle.tab_drive.specs.Commands.{IsDrive, IsNoCommand, is_account, is_account_byte, status_of, line_of, Drives, SaidOnly};
 
 use itoa::Buffer;
 use std::alloc::Global;
@@ -97,15 +98,29 @@ fn account_of(words: &[String]) -> Option<&str>
 }
 
 /// Whether the text is 3 to 24 lower-case ASCII letters and digits.
+#[tactic(auto, unfolding(crate::specs::Commands::is_account))]
 fn is_account(name: &str) -> bool
     ensures { result ≡ is_account name.now }
 {
-    name.len() >= 3
-        && name.len() <= 24
-        && name
-            .as_bytes()
-            .iter()
-            .all(|b| (97 <= *b && *b <= 122) || (48 <= *b && *b <= 57))
+    if name.len() < 3 {
+        return false;
+    }
+    if name.len() > 24 {
+        return false;
+    }
+    are_account_bytes(name.as_bytes())
+}
+
+fn are_account_bytes(bytes: &[u8]) -> bool
+    ensures { result ≡ list_all is_account_byte bytes.now }
+{
+    bytes.iter().all(|b| is_account_byte(*b))
+}
+
+fn is_account_byte(b: u8) -> bool
+    ensures { result ≡ is_account_byte b }
+{
+    (b >= 97 && b <= 122) || (b >= 48 && b <= 57)
 }
 
 /// The exit status of a schedule that stopped so.

@@ -1,4 +1,4 @@
-ghost use Rattle.std.specs.Prelude.{◌≡◌, ◌≤◌, IfNone, IfSome, IfOk, OnErr, Some};
+ghost use Rattle.std.specs.Prelude.{◌≡◌, ◌<◌, ◌≤◌, ◌-◌, ◌^◌, IfNone, IfSome, IfOk, OnErr, Some};
 ghost use Rattle.tab_outside.specs.Faults.{Rose};
 ghost use Rattle.tab_history.specs.Legality.{Legal};
 ghost use Rattle.tab_drive.specs.Walk.{Walk, first_state};
@@ -41,11 +41,13 @@ pub fn turn<S: Source, K: Sink>(
         (record { left_before = S.left input.old; left = S.left input.new; taken_before = K.taken output.old; taken = K.taken output.new }) session.old session.new) }
     ensures stopped { (walk : Walk) → Keeps session.old walk → IfSome result (StopsTurn account.now walk
         (record { left_before = S.left input.old; left = S.left input.new; taken_before = K.taken output.old; taken = K.taken output.new }) session.old session.new) }
+    ensures numbered { session.old.number < 2 ^ 64 }
     ensures read_fault { result ≡ Some Stop.ReadFault → Rose (S.faults input.old) (S.faults input.new) }
     ensures write_fault { result ≡ Some Stop.WriteFault → Rose (K.faults output.old) (K.faults output.new) }
     ensures read_later { S.faults input.old ≤ S.faults input.new }
     ensures write_later { K.faults output.old ≤ K.faults output.new }
 {
+    let number = session.number;
     let event = match next_event(alloc, input) {
         Ok(NextEvent::Event(event)) => event,
         Ok(NextEvent::End) => return Some(Stop::End),
@@ -53,7 +55,7 @@ pub fn turn<S: Source, K: Sink>(
         Err(Unread::Fault) => return Some(Stop::ReadFault),
         Err(Unread::Memory) => return Some(Stop::Memory),
     };
-    if session.number == u64::MAX {
+    if number == u64::MAX {
         return Some(Stop::Refused);
     }
     let outgoing = match session.step(alloc, account, event) {
@@ -88,6 +90,7 @@ pub fn serve<S: Source, K: Sink>(
     ensures legal { IfOk result (λ served. Legal first_state served.history.items) }
     ensures read_fault { IfOk result (λ served. served.stop ≡ Stop.ReadFault → Rose (S.faults input.old) (S.faults input.new)) }
     ensures write_fault { IfOk result (λ served. served.stop ≡ Stop.WriteFault → Rose (K.faults output.old) (K.faults output.new)) }
+    ensures numbered { IfOk result (λ served. served.done < 2 ^ 64 - 1) }
     ensures unread { OnErr result (S.left input.new ≡ S.left input.old) }
     ensures unwritten { OnErr result (K.taken output.new ≡ K.taken output.old) }
     ensures read_later { S.faults input.old ≤ S.faults input.new }

@@ -3,10 +3,10 @@ use Rattle.tab_drive.specs.Walk.{last_number}
 use Rattle.tab_drive.proofs.Turns.{turned, turned_short, refused_number, refused_form}
 use Rattle.tab_drive.proofs.serving.turn.Goals as goal
 
-pub returns-then-session-clause-stopped : goal.returns-then-session-clause-stopped
-returns-then-session-clause-stopped g c walk keeps =
+pub returns-then-number-clause-stopped : goal.returns-then-number-clause-stopped
+returns-then-number-clause-stopped g c walk keeps =
     let read = rw c.in-Ok-Event.field-0-is at c.in-Ok-Event.ensures.read in
-    let spent : last_number ≤ walk.number = omega (arith, keeps.number, c.if-session.true) in
+    let spent : last_number ≤ walk.number = omega (arith, keeps.number, c.if-number.true) in
     (refused_number c.args.account.now walk _ _ c.in-Ok-Event.event read.0 spent read.1, refl, refl)
 
 pub returns-in-Ok-write_outgoing-clause-turned : goal.returns-in-Ok-write_outgoing-clause-turned
