@@ -16,7 +16,7 @@ use Rattle.tab_history.specs.declared.exchanges.Reply.{Reply}
 use Rattle.tab_history.specs.declared.exchanges.Reply.TheVariants.{Listed, Changed, Denied as Refusal}
 use Rattle.tab_service.specs.declared.forms.Request.{Request}
 use Rattle.tab_service.specs.Requests.{IsRequest, IsQuery, IsInsert}
-use Rattle.tab_service.specs.Replies.{SuitsAsk, Suits, reply_text, memory_fault}
+use Rattle.tab_service.specs.Replies.{SuitsAsk, Suits, reply_text, reply_to_ask, denied_reply, memory_fault}
 use Rattle.tab_drive.specs.Walk.{Walk, name_of, IsBeyond, IsUnserved, walk_after, next_tick_after, Happens, reply_outcome, done_outcome}
 use Rattle.tab_drive.specs.Sessions.{goods, IsServing, Keeps, IsServedAsk, IsDecided, Writes, Collides, entry_of, entries_for, rows_then, next_then, Stepped, Replied}
 use Rattle.tab_drive.specs.declared.schedule.Scheduled.{Scheduled}
@@ -51,10 +51,15 @@ pub suits_decided : (count moment next : ℕ) (rows : List RowView) (request : R
 unfolding Suits
 suits_decided count moment next rows request reply row served within decided = suits_ask count moment next rows request.ask reply row served within decided
 
+denied_for : (account : List ℕ) (what : Ask) → reply_to_ask account what (Refusal Memory) ≡ memory_fault
+unfolding denied_reply
+denied_for account (Listing name options) = refl
+denied_for account (Writing group) = refl
+
 -- the reply that no memory was found is the same for all requests
 pub denied_text : (request : Request) → reply_text request (Refusal Memory) ≡ memory_fault
 unfolding reply_text
-denied_text request = refl
+denied_text request = denied_for request.form.account request.ask
 
 -- an answered message is a step of the walk
 pub replied_steps : (account message : List ℕ) (walk : Walk) (old new : Session) (request : Request) (text : List ℕ)

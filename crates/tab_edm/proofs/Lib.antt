@@ -6,3 +6,7 @@ pub mod Sizes
 pub mod Refusals
 pub mod Order
 pub mod Lookups
+pub mod Digits
+pub mod Pieces
+pub mod Readings
+pub mod MomentLaws

@@ -1,15 +1,14 @@
 -- The sizes of properties within the limits.
-use Rattle.std.proofs.Common.{◌≡◌, ℕ, ◌+◌, ◌*◌, ◌<◌, ◌≤◌, List, [], ◌∷◌, ◌++◌, length, Bool, true, false, cond, ltb, Option, Some, None, refl, sym, ap, ◌∙◌, arith, length-append}
+use Rattle.std.proofs.Common.{◌≡◌, ℕ, ◌*◌, ◌≤◌, List, [], ◌∷◌, length, Bool, true, false, cond, Some, None, refl, arith, length-append}
 use Rattle.std.proofs.lemmas.Bool.{ltb-false}
 use Rattle.std.proofs.lemmas.Bool.Decides.{nat_tests}
 use Rattle.std.specs.List.{flat_map}
 use Rattle.std.specs.Char.Escape.{encode_utf16}
 use Rattle.std.specs.Str.{chars}
 use Rattle.tab_edm.specs.Texts.{unit_count, char_count}
-use Rattle.tab_edm.specs.Values.{is_valid_name, is_small}
+use Rattle.tab_edm.specs.Values.{is_small}
 use Rattle.tab_edm.specs.Entities.{property_refusal}
 use Rattle.tab_edm.specs.declared.values.Property.{Property}
-use Rattle.tab_edm.specs.declared.entities.EdmRefused.{EdmRefused}
 
 -- of three tests that refuse in turn, none did
 passed : {R : Type 0} (valid long small : Bool) (a b c : R) → cond valid (cond long (Some b) (cond small None (Some c))) (Some a) ≡ None → (long ≡ false) × (small ≡ true)

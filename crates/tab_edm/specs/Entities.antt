@@ -1,5 +1,5 @@
 -- Which lists of properties are entities.
-use Rattle.std.specs.Prelude.{◌≡◌, ℕ, ◌+◌, ◌*◌, ◌≤◌, List, [], ◌∷◌, length, Bool, true, false, ◌||◌, ◌==◌, nat_lt, nat_le, not, sum_by, All, AllPairs, IsTrue, IsFalse, Option, Some, None, if◌then◌else◌, map, Result, Ok, Err, bytes_eq}
+use Rattle.std.specs.Prelude.{◌≡◌, ℕ, ◌+◌, ◌*◌, List, [], ◌∷◌, length, Bool, nat_lt, sum_by, All, AllPairs, IsTrue, IsFalse, Option, Some, None, if◌then◌else◌, Result, Ok, Err, bytes_eq}
 use Rattle.std.specs.Ordering.{is_lt, nat_cmp}
 use Rattle.std.specs.Option.{option_or}
 use Rattle.std.specs.Cmp.Lexicographic.{slice_cmp}
@@ -8,7 +8,6 @@ use Rattle.tab_edm.specs.Values.{is_valid_name, is_small, IsInTime, property_siz
 use Rattle.tab_edm.specs.declared.values.Property.{Property}
 use Rattle.tab_edm.specs.declared.values.Value.{Value}
 use Rattle.tab_edm.specs.declared.values.Fault.{Fault}
-use Rattle.tab_edm.specs.declared.values.Fault.TheVariants as Fault
 use Rattle.tab_edm.specs.declared.entities.EdmRefused.{EdmRefused}
 use Rattle.tab_edm.specs.declared.entities.EdmRefused.TheVariants.{NameInvalid, NameTooLong, ValueTooLarge, TooMany, TooLarge}
 

@@ -1,6 +1,6 @@
 -- Moments and ETags as texts.
-use Rattle.std.specs.Prelude.{ℕ, zero, suc, ◌+◌, ◌/◌, ◌%◌, List, [], ◌∷◌, ◌++◌, nat_lt, if◌then◌else◌, codes, pos}
-use Rattle.jiff_core.specs.Calendar.{days_in_month}
+use Rattle.std.specs.Prelude.{◌≡◌, ◌≤◌, ◌<◌, ℕ, zero, suc, ◌+◌, ◌-◌, ◌*◌, ◌/◌, ◌%◌, ◌^◌, List, [], ◌∷◌, ◌++◌, nat_lt, if◌then◌else◌, codes, pos}
+use Rattle.jiff_core.specs.Calendar.{days_in_month, day_count}
 
 -- a date of the calendar
 pub record CivilDate : Type 0 where
@@ -29,16 +29,22 @@ last_digits (suc count) n = last_digits count (n / 10) ++ (48 + n % 10) ∷ []
 unfoldable pub text_of_date : CivilDate → List ℕ
 text_of_date d = last_digits 4 d.year ++ codes "-" ++ last_digits 2 d.month ++ codes "-" ++ last_digits 2 d.day
 
--- `HH:MM:SS` of a second of the day, with this text for each colon
-unfoldable pub text_of_time : List ℕ → ℕ → List ℕ
-text_of_time colon second =
-    last_digits 2 (second / 3600) ++ colon ++ last_digits 2 (second / 60 % 60) ++ colon ++ last_digits 2 (second % 60)
+-- `HH:MM:SS`, with this text for each colon
+unfoldable pub text_of_time : List ℕ → ℕ → ℕ → ℕ → List ℕ
+text_of_time colon hour minute second =
+    last_digits 2 hour ++ colon ++ last_digits 2 minute ++ colon ++ last_digits 2 second
+
+-- `.` and so many digits of a second's fraction, where there are any, and `Z`
+unfoldable pub text_of_fraction : ℕ → ℕ → List ℕ
+text_of_fraction zero fraction = codes "Z"
+text_of_fraction (suc count) fraction = codes "." ++ last_digits (suc count) fraction ++ codes "Z"
 
 -- `YYYY-MM-DDTHH:MM:SS.fffffffZ`, with this text for each colon, of a number of ticks since 1601-01-01T00:00:00Z, ten
 -- million in a second
 unfoldable pub moment_with : List ℕ → ℕ → List ℕ
 moment_with colon tick =
-    text_of_date (date_after (tick / 864_000_000_000)) ++ codes "T" ++ text_of_time colon (tick / 10_000_000 % 86_400) ++ codes "." ++ last_digits 7 (tick % 10_000_000) ++ codes "Z"
+    let second = tick / 10_000_000 % 86_400 in
+    text_of_date (date_after (tick / 864_000_000_000)) ++ codes "T" ++ text_of_time colon (second / 3600) (second / 60 % 60) (second % 60) ++ text_of_fraction 7 (tick % 10_000_000)
 
 -- the text of a moment
 unfoldable pub text_of_moment : ℕ → List ℕ
@@ -47,3 +53,38 @@ text_of_moment tick = moment_with (codes ":") tick
 -- `W/"datetime'`, the moment with `%3A` for each colon, and `'"`
 unfoldable pub text_of_etag : ℕ → List ℕ
 text_of_etag tick = codes "W/\"datetime'" ++ moment_with (codes "%3A") tick ++ codes "'\""
+
+-- a real date of the years 1601 to 9999
+pub record IsServed (d : CivilDate) : Type 0 where
+  pub year_low : 1601 ≤ d.year
+  pub year_high : d.year ≤ 9999
+  pub month_low : 1 ≤ d.month
+  pub month_high : d.month ≤ 12
+  pub day_low : 1 ≤ d.day
+  pub day_high : d.day ≤ days_in_month (pos d.year) d.month
+
+-- the days from 1601-01-01 to a date
+abbrev pub days_before : CivilDate → ℕ
+days_before d = day_count (pos d.year) d.month d.day - day_count (pos 1601) 1 1
+
+-- a text that gives this moment, with this text for each colon: a date, a time of day, and up to seven digits of a
+-- second's fraction
+pub record Spells (colon text : List ℕ) (tick : ℕ) : Type 0 where
+  pub date : CivilDate
+  pub hour : ℕ
+  pub minute : ℕ
+  pub second : ℕ
+  pub count : ℕ
+  pub fraction : ℕ
+  pub date_in : IsServed date
+  pub hour_in : hour ≤ 23
+  pub minute_in : minute ≤ 59
+  pub second_in : second ≤ 59
+  pub count_in : count ≤ 7
+  pub fraction_in : fraction < 10 ^ count
+  pub text_is : text ≡ text_of_date date ++ codes "T" ++ text_of_time colon hour minute second ++ text_of_fraction count fraction
+  pub tick_is : tick ≡ (((days_before date * 24 + hour) * 60 + minute) * 60 + second) * 10_000_000 + fraction * 10 ^ (7 - count)
+
+-- the texts of a moment that are read
+abbrev pub IsMoment : List ℕ → ℕ → Type 0
+IsMoment = Spells (codes ":")

@@ -1,8 +1,8 @@
 -- Names and values of properties, with their limits and their sizes.
-use Rattle.std.specs.Prelude.{◌≡◌, ℕ, ◌+◌, ◌*◌, ◌≤◌, List, [], ◌∷◌, length, Bool, true, false, not, ◌&&◌, ◌||◌, ◌==◌, nat_lt, nat_le, chars, IsUtf8, codes, bytes_eq, ⊤}
+use Rattle.std.specs.Prelude.{ℕ, ◌+◌, ◌*◌, ◌≤◌, List, [], ◌∷◌, length, Bool, true, false, ◌&&◌, ◌||◌, ◌==◌, nat_le, chars, codes, bytes_eq, ⊤}
 use Rattle.std.specs.List.{list_all}
 use Rattle.unicode_ident.specs.Ident.{is_xid_start, is_xid_continue}
-use Rattle.tab_edm.specs.Texts.{unit_count, char_count}
+use Rattle.tab_edm.specs.Texts.{unit_count}
 use Rattle.tab_edm.specs.declared.values.Value.{Value}
 use Rattle.tab_edm.specs.declared.values.Value.TheVariants.{Text, Flag, Int32, Int64, Moment, Guid, Bytes}
 use Rattle.tab_edm.specs.declared.values.Property.{Property}

@@ -3,11 +3,13 @@
 
 mod entities;
 mod moments;
+#[cfg(test)]
+mod tests;
 mod texts;
 mod values;
 
 pub use entities::{EdmRefused, Entity};
-pub use moments::{etag_text, moment_text};
+pub use moments::{etag_text, moment_text, read_etag, read_moment};
 use std::alloc::{AllocError, AllocFailed};
 pub use texts::{BytesValue, TextValue};
 pub use values::{Property, Value};

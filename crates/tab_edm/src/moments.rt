@@ -1,5 +1,5 @@
-ghost use Rattle.std.specs.Prelude.{◌≡◌, ◌++◌, ◌≤◌, ◌<◌, IfOk, OnOk, pos, string_bytes};
-ghost use Rattle.tab_edm.specs.Moments.{date_after, last_digits, text_of_date, text_of_time, moment_with, text_of_moment, text_of_etag};
+ghost use Rattle.std.specs.Prelude.{◌≡◌, ℕ, ◌+◌, ◌-◌, ◌*◌, ◌^◌, ◌↔◌, length, take, drop, IsTrue, MatchOption, IfSome, Some, ◌++◌, ◌/◌, ◌%◌, ◌≤◌, ◌<◌, IfOk, OnOk, pos, string_bytes};
+ghost use Rattle.tab_edm.specs.Moments.{CivilDate, IsServed, IsMoment, Spells, date_after, last_digits, text_of_date, text_of_time, text_of_fraction, moment_with, text_of_moment, text_of_etag};
 
 use crate::{GREATEST, Memory};
 use jiff_core::civil::Date;
@@ -8,6 +8,9 @@ use std::alloc::{AllocError, Global};
 const TICKS_IN_A_SECOND: u64 = 10_000_000;
 
 const TICKS_IN_A_DAY: u64 = 864_000_000_000;
+
+/// The days from -9999-01-01, where jiff begins, to 1601-01-01.
+const FIRST_DAY: u32 = 4_236_813;
 
 /// The text of a moment, with seven digits of its second's fraction.
 pub fn moment_text(alloc: Global, tick: u64) -> Result<String, Memory>
@@ -31,6 +34,27 @@ pub fn etag_text(alloc: Global, tick: u64) -> Result<String, Memory>
     Ok(text)
 }
 
+/// The tick of a text that gives a moment, with up to seven digits of its second's fraction.
+pub fn read_moment(text: &str) -> Option<u64>
+    ensures exact { (tick : ℕ) → (result ≡ Some tick) ↔ IsMoment text.now tick }
+    ensures in_time { IfSome result (λ tick. tick ≤ GREATEST) }
+    ensures written { (tick : ℕ) → tick ≤ GREATEST → text.now ≡ text_of_moment tick → result ≡ Some tick }
+{
+    read_tick(text.as_bytes(), b":")
+}
+
+/// The tick of a row with this ETag.
+pub fn read_etag(text: &str) -> Option<u64>
+    ensures { (tick : ℕ) → (result ≡ Some tick) ↔ ((tick ≤ GREATEST) × (text.now ≡ text_of_etag tick)) }
+{
+    let moment = text.strip_prefix("W/\"datetime'")?.strip_suffix("'\"")?;
+    // An ETag gives all seven digits of the fraction.
+    if moment.len() != 32 {
+        return None;
+    }
+    read_tick(moment.as_bytes(), b"%3A")
+}
+
 /// Appends a moment, with `colon` for each colon.
 fn push_moment(text: &mut String, tick: u64, colon: &str) -> Result<(), AllocError>
     requires { tick ≤ GREATEST }
@@ -38,7 +62,7 @@ fn push_moment(text: &mut String, tick: u64, colon: &str) -> Result<(), AllocErr
 {
     push_date(text, (tick / TICKS_IN_A_DAY) as u32)?;
     text.push_str("T")?;
-    push_time(text, tick / TICKS_IN_A_SECOND % 86_400, colon)?;
+    push_time(text, colon, tick / TICKS_IN_A_SECOND % 86_400)?;
     text.push_str(".")?;
     push_digits(text, 7, tick % TICKS_IN_A_SECOND)?;
     text.push_str("Z")?;
@@ -66,13 +90,12 @@ fn date_after(days: u32) -> Date
     ensures month { result.month ≡ (date_after days).month }
     ensures day { result.day ≡ (date_after days).day }
 {
-    // jiff's days begin at -9999-01-01.
-    Date::from_days_since_min(days + 4_236_813)
+    Date::from_days_since_min(days + FIRST_DAY)
 }
 
 /// Appends the time of this second of a day, with `colon` for each colon.
-fn push_time(text: &mut String, second: u64, colon: &str) -> Result<(), AllocError>
-    ensures { OnOk result (string_bytes text.new ≡ string_bytes text.old ++ text_of_time colon.now second) }
+fn push_time(text: &mut String, colon: &str, second: u64) -> Result<(), AllocError>
+    ensures { OnOk result (string_bytes text.new ≡ string_bytes text.old ++ text_of_time colon.now (second / 3600) (second / 60 % 60) (second % 60)) }
 {
     push_digits(text, 2, second / 3600)?;
     text.push_str(colon)?;
@@ -94,21 +117,122 @@ fn push_digits(text: &mut String, count: u32, n: u64) -> Result<(), AllocError>
     Ok(())
 }
 
-#[cfg(test)]
-mod tests {
-    use super::*;
-    use std::test::Fail;
-
-    #[test]
-    fn writes_known_moments(rt: HostRuntime) -> Result<(), Fail> {
-        for (tick, text) in [
-            (0, "1601-01-01T00:00:00.0000000Z"),
-            (50_975_999_999_999, "1601-02-28T23:59:59.9999999Z"),
-            (130_216_075_262_608_595, "2013-08-22T01:12:06.2608595Z"),
-            (GREATEST, "9999-12-31T23:59:59.9999999Z"),
-        ] {
-            assert_eq!(rt; moment_text(rt.alloc(), tick)?.as_str(), text);
-        }
-        Ok(())
+/// The tick of a text that gives a moment, with `colon` for each colon.
+fn read_tick(text: &[u8], colon: &[u8]) -> Option<u64>
+    requires { length colon.now ≤ 3 }
+    ensures { MatchOption result ((tick : ℕ) → Spells colon.now text.now tick → ⊥) (Spells colon.now text.now) }
+{
+    let time_end = 17 + 2 * colon.len();
+    if text.len() < time_end || !has_at(text, 10, b"T") {
+        return None;
     }
+    let days = read_date(&text[..10])?;
+    let second = read_time(&text[11..time_end], colon)?;
+    let fraction = read_fraction(&text[time_end..])?;
+    Some((days as u64 * 86_400 + second as u64) * TICKS_IN_A_SECOND + fraction as u64)
+}
+
+/// The days from 1601-01-01 to a date of the years 1601 to 9999.
+fn read_date(text: &[u8]) -> Option<u32>
+    ensures { MatchOption result ((d : CivilDate) → IsServed d → text.now ≡ text_of_date d → ⊥)
+        (λ days. (days ≤ 3_067_670) × (text.now ≡ text_of_date (date_after days))) }
+{
+    if text.len() != 10 || !has_at(text, 4, b"-") || !has_at(text, 7, b"-") {
+        return None;
+    }
+    let year = number_at(text, 0, 4)?;
+    let month = number_at(text, 5, 2)?;
+    let day = number_at(text, 8, 2)?;
+    days_to(year, month, day)
+}
+
+/// The days from 1601-01-01 to a date, if the calendar has it and its year is served.
+fn days_to(year: u32, month: u32, day: u32) -> Option<u32>
+    requires year { year < 10_000 }
+    requires month { month < 100 }
+    requires day { day < 100 }
+    ensures { MatchOption result (IsServed (record { year = year; month = month; day = day }) → ⊥)
+        (λ days. (days ≤ 3_067_670) × (date_after days ≡ record { year = year; month = month; day = day })) }
+{
+    if year < 1601 {
+        return None;
+    }
+    match Date::new(year as i16, month as i8, day as i8) {
+        Ok(date) => Some(date.days_since_min() - FIRST_DAY),
+        Err(_) => None,
+    }
+}
+
+/// The second of a day, with `colon` for each colon.
+fn read_time(text: &[u8], colon: &[u8]) -> Option<u32>
+    requires { length colon.now ≤ 3 }
+    ensures { MatchOption result
+        ((hour : ℕ) (minute : ℕ) (second : ℕ) → hour ≤ 23 → minute ≤ 59 → second ≤ 59 → text.now ≡ text_of_time colon.now hour minute second → ⊥)
+        (λ second. (second < 86_400) × (text.now ≡ text_of_time colon.now (second / 3600) (second / 60 % 60) (second % 60))) }
+{
+    let width = colon.len();
+    if text.len() != 6 + 2 * width || !has_at(text, 2, colon) || !has_at(text, 4 + width, colon) {
+        return None;
+    }
+    let hour = number_at(text, 0, 2)?;
+    let minute = number_at(text, 2 + width, 2)?;
+    let second = number_at(text, 4 + 2 * width, 2)?;
+    if hour > 23 || minute > 59 || second > 59 {
+        return None;
+    }
+    Some((hour * 60 + minute) * 60 + second)
+}
+
+/// A second's fraction in ticks, with the `Z` after it.
+fn read_fraction(text: &[u8]) -> Option<u32>
+    ensures { MatchOption result
+        ((count : ℕ) (fraction : ℕ) → count ≤ 7 → fraction < 10 ^ count → text.now ≡ text_of_fraction count fraction → ⊥)
+        (λ ticks. (count : ℕ) × (fraction : ℕ) × (count ≤ 7) × (fraction < 10 ^ count)
+        × (text.now ≡ text_of_fraction count fraction) × (ticks ≡ fraction * 10 ^ (7 - count))) }
+{
+    if text == b"Z".as_slice() {
+        return Some(0);
+    }
+    let length = text.len();
+    if length < 3 || length > 9 || !has_at(text, 0, b".") || !has_at(text, length - 1, b"Z") {
+        return None;
+    }
+    let fraction = number_at(text, 1, length - 2)?;
+    Some(fraction * 10u32.pow(9 - length as u32))
+}
+
+/// The number that so many decimal digits of a text spell.
+fn number_at(text: &[u8], at: usize, count: usize) -> Option<u32>
+    requires few { count ≤ 7 }
+    requires within { at + count ≤ length text.now }
+    ensures { MatchOption result
+        ((n : ℕ) → n < 10 ^ count → take count (drop at text.now) ≡ last_digits count n → ⊥)
+        (λ n. (n < 10 ^ count) × (take count (drop at text.now) ≡ last_digits count n)) }
+{
+    read_number(&text[at..at + count])
+}
+
+/// The number that decimal digits spell.
+fn read_number(digits: &[u8]) -> Option<u32>
+    requires { length digits.now ≤ 7 }
+    ensures { MatchOption result
+        ((n : ℕ) → n < 10 ^ length digits.now → digits.now ≡ last_digits (length digits.now) n → ⊥)
+        (λ n. (n < 10 ^ length digits.now) × (digits.now ≡ last_digits (length digits.now) n)) }
+{
+    let mut n = 0;
+    for digit in digits {
+        if !digit.is_ascii_digit() {
+            return None;
+        }
+        n = n * 10 + (*digit - b'0') as u32;
+    }
+    Some(n)
+}
+
+/// Whether a piece stands at a place of a text.
+fn has_at(text: &[u8], at: usize, piece: &[u8]) -> bool
+    requires { at + length piece.now ≤ length text.now }
+    ensures { IsTrue result ↔ (take (length piece.now) (drop at text.now) ≡ piece.now) }
+{
+    &text[at..at + piece.len()] == piece
 }

@@ -1,4 +1,5 @@
-ghost use Rattle.std.specs.Prelude.{◌≡◌, map, string_bytes};
+ghost use Rattle.std.specs.Prelude.{◌≡◌, bytes_eq, map, string_bytes};
+ghost use Rattle.std.specs.List.{list_any};
 
 use crate::Row;
 use std::marker::Model;
@@ -25,11 +26,17 @@ impl Names {
         Names { texts }
     }
 
-    pub fn as_slice(&self) -> &[String]
-        ensures { map string_bytes result.now ≡ self.now }
+    pub fn contains(&self, name: &str) -> bool
+        ensures { result ≡ list_any (λ other. bytes_eq other name.now) self.now }
     {
-        self.texts.as_slice()
+        has_text(self.texts.as_slice(), name)
     }
+}
+
+fn has_text(texts: &[String], name: &str) -> bool
+    ensures { result ≡ list_any (λ text. bytes_eq (string_bytes text) name.now) texts.now }
+{
+    texts.iter().any(|text| text.as_str() == name)
 }
 
 /// The properties that a query asks for.
@@ -70,7 +77,7 @@ impl PageRows {
     }
 
     pub fn as_slice(&self) -> &[Row]
-        ensures { result.now ≡ self.now }
+        ensures rows { result.now ≡ self.now }
     {
         self.rows.as_slice()
     }

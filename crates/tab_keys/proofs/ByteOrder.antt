@@ -1,5 +1,5 @@
 -- The ranked bytes of two texts compare as the texts' code units do.
-use Rattle.std.proofs.Common.{◌≡◌, ℕ, ◌+◌, ◌-◌, ◌*◌, ◌/◌, ◌%◌, ◌<◌, ◌≤◌, List, [], ◌∷◌, ◌++◌, length, map, Bool, true, false, Ordering, ◌⊎◌, inl, inr, ap, sym, ◌∙◌, refl, subst, arith}
+use Rattle.std.proofs.Common.{◌≡◌, ℕ, ◌+◌, ◌-◌, ◌/◌, ◌%◌, ◌<◌, ◌≤◌, List, [], ◌∷◌, ◌++◌, length, map, true, Ordering, ◌⊎◌, inl, inr, ap, sym, ◌∙◌, refl, arith}
 use Rattle.std.specs.declared.cmp.Ordering.TheVariants.{Less, Equal, Greater}
 use Rattle.std.specs.Cmp.{nat_cmp_is}
 use Rattle.std.specs.Cmp.Lexicographic.{slice_cmp}
@@ -10,7 +10,6 @@ use Rattle.std.specs.Char.Escape.{encode_utf16}
 use Rattle.std.proofs.Math.Utf8.{scalar, scalars, scalar_cases, encode, encodes}
 use Rattle.std.proofs.str.Utf16.{one_unit, two_units}
 use Rattle.std.proofs.lemmas.Bool.{cases_lt, cases_order, and_parts, lt-ltb, le-ltb}
-use Rattle.std.proofs.lemmas.Bool.Decides.{nat_tests}
 use Rattle.std.proofs.lemmas.Cmp.{nat_list_cmp_total}
 use Rattle.std.proofs.lemmas.List.{map-append, length-append, length-map}
 use Rattle.std.proofs.lemmas.Str.{length-encode, len_utf8_bounds, scalars-chars, encodes-chars}
@@ -91,7 +90,7 @@ rank_far b h =
     let low : 0xEE ≤ b = omega arith in
     rw (le-ltb b 0xEE low, le-ltb b 0xF0 h) refl
 
-rank_high : (b : ℕ) → 0xEE ≤ b → b < 0xF0 → byte_rank b ≡ b + 5
+rank_high : (b : ℕ) → 0xEE ≤ b → b < 0xF0 → byte_rank b ≡ b + 16
 rank_high b h k = rw (le-ltb b 0xEE h, lt-ltb b 0xF0 k) refl
 
 rank_next : (bits : ℕ) → byte_rank (next bits) ≡ next bits
@@ -104,7 +103,7 @@ lead c = byte_rank (224 + c / 4096)
 lead_low : (c : ℕ) → c < 0xE000 → lead c ≡ 224 + c / 4096
 lead_low c h = rank_low (224 + c / 4096) (omega arith)
 
-lead_high : (c : ℕ) → 0xE000 ≤ c → c < 0x1_0000 → lead c ≡ 229 + c / 4096
+lead_high : (c : ℕ) → 0xE000 ≤ c → c < 0x1_0000 → lead c ≡ 240 + c / 4096
 lead_high c h k = rank_high (224 + c / 4096) (omega arith) (omega arith) ∙ omega arith
 
 lead_least : (c : ℕ) → c < 0x1_0000 → 224 ≤ lead c
@@ -247,6 +246,7 @@ byte_before c d x y s t (inr (inr h)) = by_range s
   where
     most : 2048 ≤ d
     most = omega arith
+
     by_range : InRange c → Before (ranked c ++ x) (ranked d ++ y)
     by_range (inl r) = absurd (omega arith)
     by_range (inr r) =
@@ -271,9 +271,11 @@ order_of c d s t = by_order (cases_order c d)
         by_planes _ (inl near) = inl (inl (h, near))
         by_planes (inl low) (inr far) = inr (inr (inr (r.0, low, far)))
         by_planes (inr high) (inr far) = inl (inr (inl (h, far, inr high)))
+
     turned : (a b : ℕ) → Precedes a b ⊎ Precedes b a → Precedes b a ⊎ Precedes a b
     turned a b (inl h) = inr h
     turned a b (inr h) = inl h
+
     by_order : (c ≡ d) ⊎ ((c < d) ⊎ (d < c)) → (c ≡ d) ⊎ (Precedes c d ⊎ Precedes d c)
     by_order (inl e) = inl e
     by_order (inr (inl h)) = inr (below c d s t h)

@@ -4,3 +4,4 @@ pub mod Injective
 pub mod OrderLaws
 pub mod KeyTexts
 pub mod ByteOrder
+pub mod FirstDifference

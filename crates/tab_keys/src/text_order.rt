@@ -1,11 +1,29 @@
 ghost use Rattle.std.specs.Prelude.{◌≡◌};
-ghost use Rattle.tab_keys.specs.Order.{text_cmp};
+ghost use Rattle.tab_keys.specs.Order.{text_cmp, byte_rank};
 
 use std::cmp::Ordering;
 
-/// Compares two texts by their UTF-16 code units, of which no list is made.
+/// Compares two texts by their UTF-16 code units, and reads each byte once.
 pub fn compare_units(a: &str, b: &str) -> Ordering
     ensures { result ≡ text_cmp a.now b.now }
 {
-    a.encode_utf16().cmp(b.encode_utf16())
+    let a = a.as_bytes();
+    let b = b.as_bytes();
+    for (x, y) in a.iter().zip(b) {
+        if x != y {
+            return byte_rank(*x).cmp(&byte_rank(*y));
+        }
+    }
+    a.len().cmp(&b.len())
+}
+
+// In units the characters from U+E000 to U+FFFF, which begin with 0xee or 0xef, come behind all others.
+fn byte_rank(b: u8) -> u8
+    ensures { result ≡ byte_rank b }
+{
+    match b {
+        0..=0xed => b,
+        0xee | 0xef => b + 16,
+        0xf0..=0xff => b - 2,
+    }
 }

@@ -1,5 +1,5 @@
 -- What a write into bytes that were filled up with zeros leaves.
-use Rattle.std.proofs.Common.{◌≡◌, ℕ, zero, suc, ◌+◌, ◌-◌, ◌≤◌, List, [], ◌∷◌, ◌++◌, length, take, drop, replicate, refl, sym, ap, ◌∙◌, arith}
+use Rattle.std.proofs.Common.{◌≡◌, ℕ, zero, suc, ◌+◌, ◌-◌, ◌≤◌, List, [], ◌∷◌, ◌++◌, length, take, drop, replicate, refl, ap, ◌∙◌, arith}
 use Rattle.std.proofs.Math.Nat.{sub-zero, zero-sub, sub_self}
 use Rattle.std.proofs.lemmas.List.{append-nil, take-replicate, drop-replicate}
 use Rattle.tab_outside.specs.Disks.{overwritten}

@@ -1,5 +1,5 @@
--- What calls of many pieces gave or took in all.
-use Rattle.std.specs.Prelude.{◌≡◌, ℕ, ◌<◌, List, [], ◌∷◌, ◌++◌, length, take, Option, None, Some, ⊤}
+-- What one or several reads gave, and what several writes took.
+use Rattle.std.specs.Prelude.{◌≡◌, ℕ, ◌<◌, ◌≤◌, List, [], ◌∷◌, ◌++◌, length, take, Option, None, Some}
 use Rattle.std.specs.Io.KnownBytes.{Keeps, Appends, Consumes, IsAtEnd}
 
 -- a read of one byte gave it, or found the end of input
@@ -13,7 +13,7 @@ pub record TookFront (old new : Option (List ℕ)) (piece : List ℕ) : Type 0 w
   pub short : count < length piece
   pub taken : Appends old new (take count piece)
 
--- bytes went from what was left behind what was there
+-- bytes went from those that were left to the place behind those that were there
 pub record Moved (old new : Option (List ℕ)) (there now : List ℕ) : Type 0 where
   pub bytes : List ℕ
   pub consumed : Consumes old new bytes

@@ -14,7 +14,7 @@ pub trait Disk {
     /// How many of its calls have failed.
     ghost faults: { Self → ℕ };
 
-    /// Whether calls can be made to fail and to stop, and a crash be acted.
+    /// Whether calls can be made to fail and to stop, and a crash can be simulated.
     ghost has_stops: { Self → Bool };
 
     /// The number of bytes.
@@ -56,9 +56,10 @@ pub trait Disk {
         ensures stops { has_stops self.new ≡ has_stops self.old };
 
     /// Whether a call has met an armed stop.
-    fn stopped(&self) -> bool;
+    fn stopped(&self) -> bool
+        ensures none { IsFalse (has_stops self.now) → IsFalse result };
 
-    /// Acts a crash: puts the disk into one of the states that a crash now may leave, chosen by `pick`, and
+    /// Simulates a crash: puts the disk into one of the states that a crash now may leave, chosen by `pick`, and
     /// clears what was armed. It answers false where the disk has no such thing.
     fn restart(&mut self, pick: u64) -> bool
         ensures has { result ≡ has_stops self.old }

@@ -114,3 +114,7 @@ module _ {X : Type 0} (R : X → X → Type 0) where
   AllPairs-append (x ∷ xs) ys h k across =
       AllPairs-cons R x (xs ++ ys) (All-append (R x) xs ys (AllPairs-head x xs h) (All-head (λ y. All (R y) ys) x xs across))
       (AllPairs-append xs ys (AllPairs-tail x xs h) k (All-tail (λ y. All (R y) ys) x xs across))
+
+pub All-split : {X : Type 0} (P : X → Type 0) (xs ys : List X) → All P (xs ++ ys) → All P ys
+All-split P [] ys h = h
+All-split P (x ∷ xs) ys h = All-split P xs ys (All-tail P x (xs ++ ys) h)

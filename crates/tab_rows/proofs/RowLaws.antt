@@ -1,10 +1,11 @@
 -- Laws of ordered rows: what stands at each key after a row is put or taken out, and that the keys still rise.
-use Rattle.std.proofs.Common.{◌≡◌, ℕ, zero, suc, ◌+◌, ◌<◌, List, [], ◌∷◌, ◌++◌, Ordering, Bool, true, false, cond, not, ◌↔◌, ◌||◌, is_eq, is_lt, length, filter, refl, sym, ap, ◌∙◌, arith}
+use Rattle.std.proofs.Common.{◌≡◌, ℕ, zero, suc, ◌+◌, ◌<◌, List, [], ◌∷◌, ◌++◌, Ordering, Bool, true, false, cond, not, ◌↔◌, ◌||◌, is_eq, is_lt, length, filter, refl, sym, ap, ◌∙◌, subst, arith}
 use Rattle.std.specs.Prelude.{Option, Some, None, find, All, AllPairs, IsTrue, IsFalse}
 use Rattle.std.specs.Option.{option_or}
 use Rattle.std.specs.Cmp.{IsEquivalence}
 use Rattle.std.proofs.lemmas.Bool.{true≢false}
 use Rattle.std.proofs.lemmas.List.{append-nil, length-append}
+use Rattle.std.proofs.lemmas.Option.{none-some, same_Some}
 use Rattle.std.proofs.lemmas.List.Elements.{All-nil, All-cons, All-head, All-tail, All-append, All-filter, All-weaker, filter_passes, filter-append, filter_agree}
 use Rattle.std.proofs.lemmas.List.Kept.{AllPairs-cons, AllPairs-filter}
 use Rattle.std.proofs.lemmas.List.Folds.{find-append}
@@ -17,7 +18,7 @@ use Rattle.tab_keys.specs.declared.bounds.Bound.TheVariants.{At}
 use Rattle.tab_keys.specs.declared.keys.Key.{Key}
 use Rattle.tab_keys.proofs.OrderLaws.{Less_from_is_lt, key_lt_irreflexive, key_lt_transitive, key_lt_asymmetric, same_key_between, same_key_equivalence, key_lt_alike_left, key_lt_alike_right, same_key_not_lt, key_lt_to_le, key_lt_across, key_cmp_heads, is_before_At, is_before_own_bound}
 use Rattle.tab_rows.specs.Rows.{RowView, AreRising, row_at, with_row, without_row, rows_from, rows_past, is_past}
-use Rattle.tab_rows.proofs.Filters.{filter_all, filter_none, find_none, All-from_find_none, filter_front, filter_back, find_behind, find-filter, filter-filter, find_below, find_above, length-filters, AllPairs-head, AllPairs-tail, AllPairs-append}
+use Rattle.tab_rows.proofs.Filters.{filter_all, filter_none, find_none, All-from_find_none, filter_front, filter_back, find_behind, find-filter, filter-filter, find_below, find_above, length-filters, AllPairs-head, AllPairs-tail, AllPairs-append, All-split}
 
 -- ---- keys that are apart
 
@@ -285,7 +286,7 @@ pub is_past-is : (table : ℕ) (pk : List ℕ) (key : Key) → IsTrue (is_past t
 unfolding key_cmp
 is_past-is table pk key = (
   λ past rk. let low : Key = record { table = table; pk = pk; rk = rk } in
-  key_lt_across low key (At key.table key.pk) (is_before_At low key.table key.pk ∙ past) (is_before_own_bound key),
+      key_lt_across low key (At key.table key.pk) (is_before_At low key.table key.pk ∙ past) (is_before_own_bound key),
   λ above. without_last (nat_cmp table key.table) (text_cmp pk key.pk) (text_cmp key.rk key.rk) (tied_itself text_cmp_total key.rk) (above key.rk),
 )
 
@@ -298,6 +299,7 @@ rows_cut p falls (row ∷ rows) rising = by_test (rows_cut p falls rows (AllPair
   where
     R : RowView → RowView → Type 0
     R a b = IsTrue (key_lt a.key b.key)
+
     by_test : rows ≡ filter p rows ++ filter (λ r. not (p r)) rows → (t : Bool) → p row ≡ t → row ∷ rows ≡ filter p (row ∷ rows) ++ filter (λ r. not (p r)) (row ∷ rows)
     by_test rest true e = rw e (ap (λ xs. row ∷ xs) rest)
     by_test rest false e =
@@ -343,3 +345,62 @@ rows_from-past rows key rising =
     (filter_agree (λ row. not (not (past row))) past (λ row. sym (not_not (past row))) (filter from rows)
     ∙ filter-filter past from (λ row h. ap not (key_lt_asymmetric key row.key ((is_past-is key.table key.pk row.key).0 h key.rk))) rows)
 
+-- rows that rise, cut at the one that stands at a key
+pub record CutAt (rows : List RowView) (key : Key) (row : RowView) : Type 0 where
+  pub front : List RowView
+  pub back : List RowView
+  pub parts : rows ≡ front ++ row ∷ back
+  pub below : AllBelow front key
+  pub same : IsTrue (same_key row.key key)
+  pub above : AllAbove back key
+
+pub cut_at : (rows : List RowView) (key : Key) (row : RowView) → AreRising rows → row_at rows key ≡ Some row → CutAt rows key row
+unfolding row_at
+cut_at [] key row rising here = absurd (none-some row here)
+cut_at (first ∷ rows) key row rising here = by_test (λ k. cut_at rows key row (AllPairs-tail R first rows rising) k) (same_key first.key key) refl
+  where
+    R : RowView → RowView → Type 0
+    R a b = IsTrue (key_lt a.key b.key)
+
+    higher : All (R first) rows
+    higher = AllPairs-head R first rows rising
+
+    found : (t : Bool) → same_key first.key key ≡ t → cond t (Some first) (find (λ r. same_key r.key key) rows) ≡ Some row
+    found t e = ap (λ u. cond u (Some first) (find (λ r. same_key r.key key) rows)) (sym e) ∙ here
+
+    by_test : (find (λ r. same_key r.key key) rows ≡ Some row → CutAt rows key row) → (t : Bool) → same_key first.key key ≡ t → CutAt (first ∷ rows) key row
+    by_test later true e =
+        let it : first ≡ row = same_Some first row (found true e) in
+        record {
+          front = [];
+          back = rows;
+          parts = ap (λ r. r ∷ rows) it;
+          below = All-nil (λ r. IsTrue (key_lt r.key key));
+          same = subst (λ (r : RowView). IsTrue (same_key r.key key)) it e;
+          above = All-weaker (R first) (λ r. IsTrue (key_lt key r.key)) (λ r h. sym (key_lt_alike_left first.key key r.key e) ∙ h) rows higher;
+        }
+    by_test later false e =
+        let cut = later (found false e) in
+        let lower : IsTrue (key_lt first.key row.key) = All-head (R first) row cut.back (All-split (R first) cut.front (row ∷ cut.back) (subst (All (R first)) cut.parts higher)) in
+        record {
+          front = first ∷ cut.front;
+          back = cut.back;
+          parts = ap (λ xs. first ∷ xs) cut.parts;
+          below = All-cons (λ r. IsTrue (key_lt r.key key)) first cut.front (sym (key_lt_alike_right row.key key first.key cut.same) ∙ lower) cut.below;
+          same = cut.same;
+          above = cut.above;
+        }
+
+-- a row that is put over another is no more
+pub length-with_row_over : (rows : List RowView) (row old : RowView) → AreRising rows → row_at rows row.key ≡ Some old → length (with_row rows row) ≡ length rows
+length-with_row_over rows row old rising here =
+    let cut = cut_at rows row.key old rising here in
+    let put : with_row rows row ≡ cut.front ++ row ∷ cut.back = ap (λ xs. with_row xs row) cut.parts ∙ with_row-over cut.front old cut.back row cut.below cut.same cut.above in
+    ap length put ∙ (length-append cut.front (row ∷ cut.back) ∙ (sym (length-append cut.front (old ∷ cut.back)) ∙ ap length (sym cut.parts)))
+
+-- a row that is taken out is one less
+pub length-without_row : (rows : List RowView) (key : Key) (old : RowView) → AreRising rows → row_at rows key ≡ Some old → length (without_row rows key) + 1 ≡ length rows
+length-without_row rows key old rising here =
+    let cut = cut_at rows key old rising here in
+    let left : length (without_row rows key) ≡ length (cut.front ++ cut.back) = ap length (ap (λ xs. without_row xs key) cut.parts ∙ without_row-over cut.front old cut.back key cut.below cut.same cut.above) in
+    omega (arith, left, length-append cut.front cut.back, length-append cut.front (old ∷ cut.back), ap length cut.parts)

@@ -2,11 +2,15 @@
 //! reserved, and cursors that lend the rows one after another and count them.
 #![tactic(auto)]
 
+mod changes;
 mod cursors;
 mod row_lists;
 mod row_values;
 mod step_counts;
+#[cfg(test)]
+mod tests;
 
+pub use changes::Change;
 pub use cursors::Cursor;
 pub use row_lists::Rows;
 pub use row_values::Row;

@@ -62,10 +62,7 @@ impl Rows {
         ensures spare { self.old.spare ≤ self.new.spare }
         ensures ok { OnOk result (more ≤ self.new.spare) }
     {
-        match self.rows.reserve(more) {
-            Ok(()) => Ok(()),
-            Err(_) => Err(Memory),
-        }
+        self.rows.reserve(more).map_err(|_| Memory)
     }
 
     /// Puts the row at its key, and gives the one that stood there.

@@ -24,16 +24,12 @@ impl Model for Row {
 }
 
 impl Row {
-    /// A copy of the row.
     pub fn try_copy(&self, alloc: Global) -> Result<Row, Memory>
         ensures { IfOk result (λ copy. copy ≡ self.now) }
     {
-        let Ok(entity) = self.entity.try_copy(alloc) else {
-            return Err(Memory);
-        };
         Ok(Row {
             key: self.key.try_copy(alloc)?,
-            entity,
+            entity: self.entity.try_copy(alloc).map_err(|_| Memory)?,
             tick: self.tick,
         })
     }

@@ -1,2 +1,4 @@
 pub mod Requests
+pub mod Heads
+pub mod Bodies
 pub mod Replies

@@ -61,18 +61,18 @@ insert account pk rk properties =
 -- The body is one JSON object of texts alone. Two members are the keys, and the others are the properties of the
 -- entity that the request is to insert.
 pub record IsInsertOf (account body : List ℕ) (request : Request) : Type 0 where
-  pub members : List (List ℕ × List ℕ)
+  pub texts : List (List ℕ × List ℕ)
   pub pk : List ℕ
   pub rk : List ℕ
   pub utf8 : IsUtf8 body
-  pub reads : read body ≡ Some (object (text_members members))
-  pub pk_member : get_member (codes "PartitionKey") (text_members members) ≡ Some (string pk)
-  pub rk_member : get_member (codes "RowKey") (text_members members) ≡ Some (string rk)
-  pub none_kept : All (λ text. IsFalse (is_kept text.0)) members
+  pub reads : read body ≡ Some (object (text_members texts))
+  pub pk_member : get_member (codes "PartitionKey") (text_members texts) ≡ Some (string pk)
+  pub rk_member : get_member (codes "RowKey") (text_members texts) ≡ Some (string rk)
+  pub none_kept : All (λ text. IsFalse (is_kept text.0)) texts
   pub pk_text : IsKeyText pk
   pub rk_text : IsKeyText rk
-  pub entity : IsEntity (length (units_of pk)) (length (units_of rk)) (text_properties members)
-  pub asks : request ≡ insert account pk rk (text_properties members)
+  pub entity : IsEntity (length (units_of pk)) (length (units_of rk)) (text_properties texts)
+  pub asks : request ≡ insert account pk rk (text_properties texts)
 
 -- `POST /ACCOUNT/Goods` of HTTP/1.1 with one header, whose name has no case: the length of the body in decimal
 pub record IsInsert (account message : List ℕ) (request : Request) : Type 0 where

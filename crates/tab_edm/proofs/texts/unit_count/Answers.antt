@@ -1,4 +1,4 @@
-use Rattle.std.proofs.Common.{sym, ◌∙◌, arith}
+use Rattle.std.proofs.Common.{arith}
 use Rattle.std.proofs.lemmas.Grind.{common_steps}
 use Rattle.tab_edm.proofs.Units.{unit_count-units_begun}
 use Rattle.tab_edm.proofs.texts.unit_count.Goals as goal

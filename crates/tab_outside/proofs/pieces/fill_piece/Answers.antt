@@ -1,4 +1,4 @@
-use Rattle.std.proofs.Common.{◌∙◌, ◌≡◌, ◌≤◌, ◌+◌, ap, take, length, arith, rules}
+use Rattle.std.proofs.Common.{◌∙◌, ◌≡◌, ◌≤◌, take, length, rules}
 use Rattle.tab_outside.proofs.Fronts.{grown_front, cut_behind}
 use Rattle.tab_outside.proofs.pieces.fill_piece.Goals as goal
 

@@ -1,4 +1,4 @@
-use Rattle.std.proofs.Common.{◌∙◌, sym, ap, ◌≡◌, ◌≤◌, ◌<◌, length, None, arith}
+use Rattle.std.proofs.Common.{◌∙◌, sym, ap, length, arith}
 use Rattle.tab_edm.specs.Entities.{first_refusal, entity_size}
 use Rattle.tab_edm.proofs.Refusals.{told, made-first, made-many, made-large, made-None, refused_not}
 use Rattle.tab_edm.proofs.entities.Entity.from_sorted.Goals as goal

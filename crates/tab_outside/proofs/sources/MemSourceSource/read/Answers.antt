@@ -1,4 +1,4 @@
-use Rattle.std.proofs.Common.{arith, take, drop}
+use Rattle.std.proofs.Common.{take}
 use Rattle.std.proofs.lemmas.List.{take_rest}
 use Rattle.tab_outside.proofs.Fronts.{read_front, read_none}
 use Rattle.tab_outside.proofs.sources.MemSourceSource.read.Goals as goal

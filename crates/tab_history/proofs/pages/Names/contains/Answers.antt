@@ -1,0 +1,14 @@
+use Rattle.std.proofs.Common.{◌≡◌, List, [], ◌∷◌, ◌||◌, Bool, map, refl, ap, ◌∙◌, sym, string_bytes, bytes_eq}
+use Rattle.std.specs.List.{list_any}
+use Rattle.tab_history.proofs.pages.Names.contains.Goals as goal
+
+list_any-map : {X Y : Type 0} (p : Y → Bool) (f : X → Y) (xs : List X) → list_any p (map f xs) ≡ list_any (λ x. p (f x)) xs
+list_any-map p f [] = refl
+list_any-map p f (x ∷ xs) = ap (λ b. p (f x) || b) (list_any-map p f xs)
+
+pub returns : goal.returns
+returns c =
+    c.has_text.ensures
+    ∙ ap (list_any (λ text. bytes_eq (string_bytes text) c.args.name.now)) c.as_slice.ensures.value
+    ∙ sym (list_any-map (λ other. bytes_eq other c.args.name.now) string_bytes c.self.inside.texts.items)
+    ∙ ap (list_any (λ other. bytes_eq other c.args.name.now)) c.self.view_is

@@ -1,0 +1,144 @@
+-- No value that this crate writes has a float in it, so each has a text.
+use Rattle.std.proofs.Common.{◌≡◌, ℕ, ℤ, pos, negsuc, List, [], ◌∷◌, ◌++◌, Bool, true, false, ◌||◌, refl, ap, ◌∙◌, map, flat_map, if◌then◌else◌, codes, None, Some, option_map, option_to_list}
+use Rattle.std.specs.declared.cmp.Ordering.{Ordering}
+use Rattle.std.specs.declared.cmp.Ordering.TheVariants.{Less, Equal, Greater}
+use Rattle.std.specs.Ordering.{nat_cmp, match_ordering}
+use Rattle.std.specs.Cmp.Lexicographic.{slice_cmp}
+use Rattle.serde_json.specs.Data.{Data, Members, no_members, member, object, array, string, put}
+use Rattle.serde_json.specs.Find.{of_integer, is_float}
+use Rattle.serde_json.specs.View.{items_of}
+use Rattle.serde_json.specs.Written.{has_float, members_have_float, items_have_float}
+use Rattle.tab_edm.specs.declared.values.Value.{Value}
+use Rattle.tab_edm.specs.declared.values.Value.TheVariants.{Text, Flag, Int32, Int64, Moment, Guid, Bytes}
+use Rattle.tab_edm.specs.declared.values.Property.{Property}
+use Rattle.tab_rows.specs.Rows.{RowView}
+use Rattle.tab_json.specs.Objects.{Member, with_members, object_of}
+use Rattle.tab_json.specs.Entities.{VersionView, version_of, value_data, annotated_type, annotation, is_selected, if_selected, property_members, key_members, etag, entity_members, metadata, metadata_address, entity_data, page_data}
+use Rattle.tab_json.specs.Faults.{message_data, fault_data}
+use Rattle.tab_json.specs.declared.entities.JsonForm.{JsonForm}
+
+or_neither : (x y : Bool) → x ≡ false → y ≡ false → (x || y) ≡ false
+or_neither x y first second = ap (λ z. z || y) first ∙ second
+
+or_not_left : (x y : Bool) → (x || y) ≡ false → x ≡ false
+or_not_left true y neither = neither
+or_not_left false y neither = refl
+
+or_not_right : (x y : Bool) → (x || y) ≡ false → y ≡ false
+or_not_right true y neither = cc
+or_not_right false y neither = neither
+
+-- no member of the list has a float
+pub AreFloatless : List Member → Type 0
+AreFloatless [] = Unit {0}
+AreFloatless (m ∷ ms) = (has_float m.1 ≡ false) × AreFloatless ms
+
+floatless-put : (name : List ℕ) (d : Data) (ms : Members) → has_float d ≡ false → members_have_float ms ≡ false → members_have_float (put name d ms) ≡ false
+floatless-put name d no_members new old = or_neither (has_float d) false new refl
+floatless-put name d (member other e ms) new old =
+    elim (slice_cmp nat_cmp name other)
+    as (λ o. members_have_float (match_ordering o (member name d (member other e ms)) (member other d ms) (member other e (put name d ms))) ≡ false) [
+      | Less ↦ or_neither (has_float d) (has_float e || members_have_float ms) new old
+      | Equal ↦ or_neither (has_float d) (members_have_float ms) new (or_not_right (has_float e) (members_have_float ms) old)
+      | Greater ↦ or_neither (has_float e) (members_have_float (put name d ms)) (or_not_left (has_float e) (members_have_float ms) old)
+          (floatless-put name d ms new (or_not_right (has_float e) (members_have_float ms) old))
+    ]
+
+floatless-with_members : (ms : Members) (more : List Member) → members_have_float ms ≡ false → AreFloatless more → members_have_float (with_members ms more) ≡ false
+unfolding with_members AreFloatless
+floatless-with_members ms [] old new = old
+floatless-with_members ms (m ∷ more) old new = floatless-with_members (put m.0 m.1 ms) more (floatless-put m.0 m.1 ms new.0 old) new.1
+
+pub floatless-object_of : (ms : List Member) → AreFloatless ms → has_float (object_of ms) ≡ false
+unfolding object_of
+floatless-object_of ms all = floatless-with_members no_members ms refl all
+
+AreFloatless-append : (a b : List Member) → AreFloatless a → AreFloatless b → AreFloatless (a ++ b)
+unfolding AreFloatless
+AreFloatless-append [] b first second = second
+AreFloatless-append (m ∷ a) b first second = (first.0, AreFloatless-append a b first.1 second)
+
+AreFloatless-flat_map : {X : Type 0} (f : X → List Member) (each : (x : X) → AreFloatless (f x)) (xs : List X) → AreFloatless (flat_map f xs)
+unfolding AreFloatless
+AreFloatless-flat_map f each [] = tt
+AreFloatless-flat_map f each (x ∷ xs) = AreFloatless-append (f x) (flat_map f xs) (each x) (AreFloatless-flat_map f each xs)
+
+AreFloatless-if : (b : Bool) (ms : List Member) → AreFloatless ms → AreFloatless (if b then ms else [])
+unfolding AreFloatless
+AreFloatless-if true ms all = all
+AreFloatless-if false ms all = tt
+
+-- a member whose value is a text
+AreFloatless-text : (name text : List ℕ) → AreFloatless ((name, string text) ∷ [])
+unfolding AreFloatless
+AreFloatless-text name text = (refl, tt)
+
+floatless-of_integer : (z : ℤ) → is_float (of_integer z) ≡ false
+floatless-of_integer (pos n) = refl
+floatless-of_integer (negsuc n) = refl
+
+floatless-value_data : (value : Value) → has_float (value_data value) ≡ false
+unfolding value_data
+floatless-value_data (Text text) = refl
+floatless-value_data (Flag b) = refl
+floatless-value_data (Int32 n) = floatless-of_integer n
+floatless-value_data (Int64 n) = refl
+floatless-value_data (Moment tick) = refl
+floatless-value_data (Guid bytes) = refl
+floatless-value_data (Bytes bytes) = refl
+
+AreFloatless-annotation : (p : Property) → AreFloatless (annotation p)
+unfolding annotation AreFloatless
+AreFloatless-annotation p = elim (annotated_type p.value) as (λ kind. AreFloatless (option_to_list (option_map (λ k. (p.name ++ codes "@odata.type", string k)) kind))) [ None ↦ tt | Some kind ↦ (refl, tt) ]
+
+AreFloatless-property_members : (form : JsonForm) (p : Property) → AreFloatless (property_members form p)
+unfolding property_members AreFloatless
+AreFloatless-property_members form p =
+    AreFloatless-if (is_selected form.select p.name) ((p.name, value_data p.value) ∷ (if form.minimal then annotation p else []))
+    (floatless-value_data p.value, AreFloatless-if form.minimal (annotation p) (AreFloatless-annotation p))
+
+AreFloatless-key_members : (form : JsonForm) (version : VersionView) → AreFloatless (key_members form version)
+unfolding key_members
+AreFloatless-key_members form version =
+    AreFloatless-append _ _
+    (AreFloatless-append _ _
+    (AreFloatless-if (is_selected form.select (codes "PartitionKey")) _ (AreFloatless-text (codes "PartitionKey") version.pk))
+    (AreFloatless-if (is_selected form.select (codes "RowKey")) _ (AreFloatless-text (codes "RowKey") version.rk)))
+    (AreFloatless-if (is_selected form.select (codes "Timestamp")) _ (AreFloatless-text (codes "Timestamp") _))
+
+AreFloatless-entity_members : (form : JsonForm) (version : VersionView) → AreFloatless (entity_members form version)
+unfolding entity_members
+AreFloatless-entity_members form version =
+    AreFloatless-append _ _
+    (AreFloatless-append _ _
+    (AreFloatless-flat_map (property_members form) (AreFloatless-property_members form) version.properties)
+    (AreFloatless-key_members form version))
+    (AreFloatless-if form.minimal _ (AreFloatless-text (codes "odata.etag") _))
+
+AreFloatless-metadata : (form : JsonForm) (address : List ℕ) → AreFloatless (metadata form address)
+AreFloatless-metadata form address = AreFloatless-if form.minimal _ (AreFloatless-text (codes "odata.metadata") address)
+
+pub floatless-entity_data : (account name : List ℕ) (form : JsonForm) (version : VersionView) → has_float (entity_data account name form version) ≡ false
+unfolding entity_data
+floatless-entity_data account name form version =
+    floatless-object_of _
+    (AreFloatless-append _ _ (AreFloatless-entity_members form version) (AreFloatless-metadata form (metadata_address account name ++ codes "/@Element")))
+
+floatless-rows : (form : JsonForm) (rows : List RowView) → items_have_float (items_of (map (λ row. object_of (entity_members form (version_of row))) rows)) ≡ false
+floatless-rows form [] = refl
+floatless-rows form (row ∷ rows) =
+    or_neither (has_float (object_of (entity_members form (version_of row)))) _
+    (floatless-object_of (entity_members form (version_of row)) (AreFloatless-entity_members form (version_of row))) (floatless-rows form rows)
+
+pub floatless-page_data : (account name : List ℕ) (form : JsonForm) (rows : List RowView) → has_float (page_data account name form rows) ≡ false
+unfolding page_data AreFloatless
+floatless-page_data account name form rows =
+    floatless-object_of _ (AreFloatless-append _ _ (AreFloatless-metadata form (metadata_address account name)) (floatless-rows form rows, tt))
+
+floatless-message_data : (value : List ℕ) → has_float (message_data value) ≡ false
+unfolding message_data AreFloatless
+floatless-message_data value = floatless-object_of _ (refl, (refl, tt))
+
+pub floatless-fault_data : (code value : List ℕ) → has_float (fault_data code value) ≡ false
+unfolding fault_data AreFloatless
+floatless-fault_data code value = floatless-object_of _ (floatless-object_of _ (refl, (floatless-message_data value, tt)), tt)
