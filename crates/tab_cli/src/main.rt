@@ -12,12 +12,12 @@ ghost use Rattle.tab_cli.specs.Invocations.{IsInvocation};
 
 use clocks::RealClock;
 use invocations::{Invocation, read_invocation};
-use tab_drive::run;
 use sinks::StdSink;
 use sources::StdSource;
 use std::alloc::Global;
 use std::process::ExitCode;
 use std::{env, io};
+use tab_drive::run;
 use tab_outside::{MemDisk, Memory};
 
 /// What is printed at wrong words, as the commands print it too.

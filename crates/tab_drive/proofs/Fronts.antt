@@ -17,7 +17,7 @@ took_more old mid new before piece rest whole part = record {
   short = let l = length-append before (piece ++ rest) in let m = length-append piece rest in let s : part.count < length piece = part.short in omega (arith, l, m);
   taken =
       let e : take (length before + part.count) (before ++ (piece ++ rest)) ≡ before ++ take part.count piece =
-          take-append-add before (piece ++ rest) part.count ∙ ap (λ (t : List ℕ). before ++ t) (take-append-le part.count piece rest (let s : part.count < length piece = part.short in omega arith)) in
+      take-append-add before (piece ++ rest) part.count ∙ ap (λ (t : List ℕ). before ++ t) (take-append-le part.count piece rest (let s : part.count < length piece = part.short in omega arith)) in
       rw e (Appends-trans old mid new before (take part.count piece) whole part.taken);
 }
 

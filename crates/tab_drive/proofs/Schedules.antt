@@ -78,8 +78,8 @@ legal_push : (account : List ℕ) (moment : ℕ) (xs : List Exchange) (x : Excha
     → Exchanged account (walk_after_all (first_walk moment) xs) x old new → Legal first_state new.history.items
 legal_push account moment xs x old new before legal more =
     subst (λ (h : List Entry). Legal first_state h) (sym more.history)
-        (Legal-append first_state old.history.items x.entries legal
-            (subst (λ (s : State). Legal s x.entries) (past_is moment xs ∙ ap (λ (h : List Entry). after_all first_state h) (sym before)) more.legal))
+    (Legal-append first_state old.history.items x.entries legal
+    (subst (λ (s : State). Legal s x.entries) (past_is moment xs ∙ ap (λ (h : List Entry). after_all first_state h) (sym before)) more.legal))
 
 follows_push : (account : List ℕ) (moment : ℕ) (xs : List Exchange) (x : Exchange) (old new : Session) → Follows account (first_walk moment) xs
     → Exchanged account (walk_after_all (first_walk moment) xs) x old new → Follows account (first_walk moment) (xs ++ x ∷ [])

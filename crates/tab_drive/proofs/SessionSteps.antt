@@ -68,7 +68,7 @@ pub replied_steps : (account message : List ℕ) (walk : Walk) (old new : Sessio
 unfolding walk_after
 replied_steps account message walk old new request text keeps reads within replied =
     let decided : IsDecided walk.past.world.rows (max walk.moment walk.next_tick) request.ask replied.reply replied.row =
-        rw (← keeps.rows, ← keeps.moment, ← keeps.next_tick) replied.decided in
+    rw (← keeps.rows, ← keeps.moment, ← keeps.next_tick) replied.decided in
     let served : IsUnserved walk request.ask → ⊥ = rw (← keeps.rows, ← keeps.moment, ← keeps.next_tick) within in
     let ask = served_ask account message request reads in
     let added = adds walk request.ask replied.reply replied.row keeps.serving ask served decided in

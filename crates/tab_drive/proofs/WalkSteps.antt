@@ -105,11 +105,11 @@ adds_item : (walk : Walk) (item : ItemView) (tick : ℕ) (row : RowView) → IsS
     → Adds walk (Writing (item ∷ [])) (Changed tick) (Some row)
 adds_item walk item tick row serving name is in_time entity key tick_is absent =
     let outcome : group_outcome walk.past.world.rows goods tick (item ∷ []) ≡ Ok (with_row walk.past.world.rows row) =
-        insert_stands walk.past.world.rows goods tick item row.entity entity absent
-        ∙ ap (λ (r : RowView). Ok (with_row walk.past.world.rows r)) (same_rows (item_key goods item) row.key row.entity tick row.tick (sym key) (sym tick_is)) in
+    insert_stands walk.past.world.rows goods tick item row.entity entity absent
+    ∙ ap (λ (r : RowView). Ok (with_row walk.past.world.rows r)) (same_rows (item_key goods item) row.key row.entity tick row.tick (sym key) (sym tick_is)) in
     let greatest : max walk.moment walk.next_tick ≤ GREATEST = omega (arith, is, in_time) in
     let may : MayHaveTick walk.past.world.floors (group_keys goods (item ∷ [])) walk.moment tick =
-        rw is (may_have_next walk.past.world.floors walk.next_tick walk.moment (group_keys goods (item ∷ [])) serving.floors greatest) in
+    rw is (may_have_next walk.past.world.floors walk.next_tick walk.moment (group_keys goods (item ∷ [])) serving.floors greatest) in
     record {
       answers = (refl, refl, refl, is);
       replies = refl;
@@ -127,7 +127,7 @@ adds_row : (walk : Walk) (group : List ItemView) (tick : ℕ) (row : RowView) �
 adds_row walk group tick row serving served is in_time writes =
     let name = rw writes.alone at (group_named group served) in
     subst (λ (items : List ItemView). Adds walk (Writing items) (Changed tick) (Some row)) (sym writes.alone)
-        (adds_item walk writes.item tick row serving name is in_time writes.entity writes.key writes.tick_is writes.absent)
+    (adds_item walk writes.item tick row serving name is in_time writes.entity writes.key writes.tick_is writes.absent)
 
 refused_outcome : (rows : List RowView) (group : List ItemView) (refusal : OpRefused) → Collides rows group refusal → group_outcome rows goods 0 group ≡ Err refusal
 refused_outcome rows group refusal collides =
@@ -141,8 +141,10 @@ adds_refusal : (walk : Walk) (group : List ItemView) (refusal : OpRefused) → I
 adds_refusal walk group refusal serving served collides = record {
   answers = (refl, refl, refl, tt);
   replies = refl;
-  legal = (goods_found walk (group_name group) serving (group_named group served),
-      ((table_for-first walk.past.tables walk.number (Some goods), refused_outcome walk.past.world.rows group refusal collides), tt));
+  legal = (
+    goods_found walk (group_name group) serving (group_named group served),
+    ((table_for-first walk.past.tables walk.number (Some goods), refused_outcome walk.past.world.rows group refusal collides), tt),
+  );
   rows = refl;
   next = refl;
   floors = serving.floors;
@@ -214,10 +216,11 @@ rows_then-serve walk (Writing group) (Changed tick) (Some row) serving within de
     let room = not_beyond (length walk.past.world.rows) walk.moment walk.next_tick group within in
     let writes : Writes walk.past.world.rows (max walk.moment walk.next_tick) group row = decided.1 in
     let absent : row_at walk.past.world.rows row.key ≡ None = rw writes.key writes.absent in
-    let table : row.key.table ≡ goods = ap (λ (k : Key). k.table) writes.key in
-    (recursion_from_All (λ (r : RowView). r.key.table ≡ goods) (with_row walk.past.world.rows row)
-        (All-with_row (λ r. r.key.table ≡ goods) walk.past.world.rows row (All-from_recursion (λ (r : RowView). r.key.table ≡ goods) walk.past.world.rows serving.in_table) table),
-     let longer = length-with_row walk.past.world.rows row absent in omega (arith, longer, room.0))
+    let table : row.key.table ≡ goods = ap (λ (k : Key). k.table) writes.key in (
+      recursion_from_All (λ (r : RowView). r.key.table ≡ goods) (with_row walk.past.world.rows row)
+          (All-with_row (λ r. r.key.table ≡ goods) walk.past.world.rows row (All-from_recursion (λ (r : RowView). r.key.table ≡ goods) walk.past.world.rows serving.in_table) table),
+      let longer = length-with_row walk.past.world.rows row absent in omega (arith, longer, room.0),
+    )
 rows_then-serve walk (Writing group) (Listed page) (Some row) serving within decided = absurd decided
 rows_then-serve walk (Writing group) (Refusal Memory) (Some row) serving within decided = absurd decided
 rows_then-serve walk (Writing group) (Refusal (Op refusal)) (Some row) serving within decided = absurd decided

@@ -6,13 +6,12 @@ ghost use Rattle.tab_drive.specs.Walk.{first_state};
 ghost use Rattle.tab_drive.specs.Runs.{TookLine, usage_line};
 ghost use Rattle.tab_drive.specs.Commands.{IsDrive, IsNoCommand, is_account, is_account_byte, status_of, line_of, Drives, SaidOnly};
 
+use crate::outgoing::write_pieces;
+use crate::serving::{Stop, serve};
 use itoa::Buffer;
 use std::alloc::Global;
 use tab_history::History;
 use tab_outside::{Clock, Disk, Sink, Source};
-
-use crate::outgoing::write_pieces;
-use crate::serving::{Stop, serve};
 
 /// How a run ended.
 #[derive(Drop)]

@@ -5,14 +5,13 @@ ghost use Rattle.tab_drive.specs.Walk.{Walk, first_state};
 ghost use Rattle.tab_drive.specs.Sessions.{Keeps};
 ghost use Rattle.tab_drive.specs.Runs.{Turned, StopsTurn, Stops};
 
+use crate::outgoing::write_outgoing;
+use crate::reading::{NextEvent, Unread, next_event};
+use crate::session::{Session, StepRefused};
 use std::alloc::Global;
 use tab_history::Entry;
 use tab_keys::Memory;
 use tab_outside::{Sink, Source};
-
-use crate::outgoing::write_outgoing;
-use crate::reading::{NextEvent, Unread, next_event};
-use crate::session::{Session, StepRefused};
 
 /// Why a schedule was read no further.
 #[derive(Clone, Copy, Debug, PartialEq, Eq)]

@@ -8,16 +8,15 @@ ghost use Rattle.tab_edm.specs.declared.TheConstants.{GREATEST};
 ghost use Rattle.tab_drive.specs.Outgoing.{outgoing_text};
 ghost use Rattle.tab_drive.specs.Sessions.{goods, Keeps, Stepped, Replied, IsOutOfFormEvent, IsServedAsk, IsDecided, entry_of, entries_for, rows_then, next_then};
 
+use crate::copies::copied_rows;
+use crate::outgoing::{Outgoing, ReplyBytes};
+use crate::schedule::{RawMessage, Scheduled};
 use std::alloc::Global;
 use tab_edm::{Entity, GREATEST};
 use tab_history::{Ask, Bounds, Denied, Entry, Group, Op, OpRefused, Page, PageRows, Reply};
 use tab_keys::{Bound, Key, KeyText, Memory, TableName};
 use tab_rows::{Row, Rows};
 use tab_service::{Request, read_request, reply_bytes};
-
-use crate::copies::copied_rows;
-use crate::outgoing::{Outgoing, ReplyBytes};
-use crate::schedule::{RawMessage, Scheduled};
 
 /// The number of the one table.
 const GOODS: u64 = 1;

@@ -40,7 +40,7 @@ pub prefix_length-whole : {A : Type 0} (test : A → Bool) (top most : ℕ) (xs 
 prefix_length-whole test top most [] in_top in_most = refl
 prefix_length-whole test top most (x ∷ xs) in_top in_most =
     rw (not_zero top (length xs) in_top, not_zero most (length xs) in_most)
-        (ap suc (prefix_length-whole test (top - (if test x then 1 else 0)) (most - 1) xs (omega (arith, counts_one (test x))) (omega arith)))
+    (ap suc (prefix_length-whole test (top - (if test x then 1 else 0)) (most - 1) xs (omega (arith, counts_one (test x))) (omega arith)))
 
 not_less : (xs ys : List ℕ) → is_lt (ordering_then (slice_cmp nat_cmp xs []) (slice_cmp nat_cmp ys [])) ≡ false
 not_less [] [] = refl

@@ -8,5 +8,5 @@ pub returns-in_err-write_all-clause-written : goal.returns-in_err-write_all-clau
 returns-in_err-write_all-clause-written g c =
     err_wrote _ _ _ _ c.from_residual.ensures.0
     (subst (λ (t : List ℕ). TookFront (g.K.Sink.taken c.args.sink.now) (g.K.Sink.taken c.write_all.new.sink) t)
-        (sym (pieces_at (λ piece. piece.now) c.args.pieces.now c.loop-piece.piece-index (record { ref_ptr = (0, 0); now = [] }) c.loop-piece-test.true))
-        (took_more _ _ _ _ _ _ c.loop-piece.invariant.taken c.in_err-write_all.ensures.part))
+    (sym (pieces_at (λ piece. piece.now) c.args.pieces.now c.loop-piece.piece-index (record { ref_ptr = (0, 0); now = [] }) c.loop-piece-test.true))
+    (took_more _ _ _ _ _ _ c.loop-piece.invariant.taken c.in_err-write_all.ensures.part))

@@ -24,13 +24,13 @@ pub returns-in-Some-clause-stops : goal.returns-in-Some-clause-stops
 returns-in-Some-clause-stops g c =
     let going = c.loop-stop.invariant.going in
     stopped c.args.account.now c.args.moment _ _ _ _ _ _ c.loop-stop.session c.turn.new.session c.loop-stop.done c.in-Some.stop going
-        (c.in-Some.ensures.stopped (walk_after_all (first_walk c.args.moment) going.exchanges) going.keeps)
+    (c.in-Some.ensures.stopped (walk_after_all (first_walk c.args.moment) going.exchanges) going.keeps)
 
 pub returns-in-Some-clause-legal : goal.returns-in-Some-clause-legal
 returns-in-Some-clause-legal g c =
     let going = c.loop-stop.invariant.going in
     stopped_legal c.args.account.now c.args.moment _ _ _ _ _ _ c.loop-stop.session c.turn.new.session c.loop-stop.done c.in-Some.stop going
-        (c.in-Some.ensures.stopped (walk_after_all (first_walk c.args.moment) going.exchanges) going.keeps)
+    (c.in-Some.ensures.stopped (walk_after_all (first_walk c.args.moment) going.exchanges) going.keeps)
 
 pub returns-in-Some-clause-numbered : goal.returns-in-Some-clause-numbered
 returns-in-Some-clause-numbered g c = omega (arith, c.loop-stop.invariant.going.numbered, c.in-Some.ensures.numbered)
