@@ -34,8 +34,8 @@ pub fn read_request(alloc: Global, account: &str, message: &[u8]) -> Result<Opti
     Ok(None)
 }
 
-#[tactic(auto, using(crate::proofs::Laws::one_message_is_one_request))]
 /// A message is one request at the most.
+#[tactic(auto, using(crate::proofs::Laws::one_message_is_one_request))]
 pub fn one_message_is_one_request()
     ensures { (account message : List ℕ) (a b : Request)
         → IsRequest account message a → IsRequest account message b → a ≡ b }
