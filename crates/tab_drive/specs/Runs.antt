@@ -6,7 +6,7 @@ use Rattle.tab_outside.specs.Transfers.{TookFront}
 use Rattle.tab_history.specs.Legality.{Legal}
 use Rattle.tab_history.specs.declared.entries.Entry.{Entry}
 use Rattle.tab_drive.specs.Schedule.{spelling, Fits, end_line, IsNoEvent}
-use Rattle.tab_drive.specs.Reading.{IfTold}
+use Rattle.tab_drive.specs.Reading.{IfTold, IsWithinOne}
 use Rattle.tab_drive.specs.Walk.{Walk, Exchange, first_walk, first_state, opening, last_number, Happens, Follows, walk_after, walk_after_all, bytes_of, entries_of, text_of, IsRefused}
 use Rattle.tab_drive.specs.Sessions.{Keeps}
 use Rattle.tab_drive.specs.declared.schedule.Scheduled.{Scheduled}
@@ -58,12 +58,16 @@ pub record TurnedIdle (P : List ℕ → Type 0) (traffic : Traffic) (old new : S
 abbrev pub IsOneAtMost : List ℕ → Type 0
 IsOneAtMost bytes = ((event : Scheduled) × (bytes ≡ spelling event)) ⊎ IsNoEvent bytes
 
+-- less than a whole event was taken, and no more than one line or one message with what calls it
+abbrev pub IsCutShort : List ℕ → Type 0
+IsCutShort bytes = IsNoEvent bytes × IsWithinOne bytes
+
 -- how a turn stopped the run
 abbrev pub StopsTurn : List ℕ → Walk → Traffic → Session → Session → Stop → Type 0
 StopsTurn account walk traffic old new End = TurnedIdle (λ part. part ≡ end_line) traffic old new
 StopsTurn account walk traffic old new Refused =
     IfTold traffic.left_before (IsRefused account walk) × (traffic.taken ≡ traffic.taken_before) × (new.history.items ≡ old.history.items)
-StopsTurn account walk traffic old new ReadFault = TurnedIdle IsNoEvent traffic old new
+StopsTurn account walk traffic old new ReadFault = TurnedIdle IsCutShort traffic old new
 StopsTurn account walk traffic old new WriteFault = TurnedShort account walk traffic old new
 StopsTurn account walk traffic old new Memory = TurnedIdle IsOneAtMost traffic old new
 
@@ -117,7 +121,7 @@ pub record Unwritten (account : List ℕ) (moment : ℕ) (traffic : Traffic) (hi
 abbrev pub Stops : List ℕ → ℕ → Traffic → List Entry → ℕ → Stop → Type 0
 Stops account moment traffic history done End = Finished account moment traffic history done
 Stops account moment traffic history done Refused = RefusedNext account moment traffic history done
-Stops account moment traffic history done ReadFault = LeftOff IsNoEvent account moment traffic history done
+Stops account moment traffic history done ReadFault = LeftOff IsCutShort account moment traffic history done
 Stops account moment traffic history done WriteFault = Unwritten account moment traffic history done
 Stops account moment traffic history done Memory = LeftOff IsOneAtMost account moment traffic history done
 
