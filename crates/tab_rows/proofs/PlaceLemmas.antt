@@ -1,23 +1,23 @@
 -- What a key's place among rising rows says of a look-up and of a change at the key, and that a binary search
 -- finds it.
-use Rattle.std.proofs.Common.{◌≡◌, ℕ, suc, ◌+◌, ◌<◌, ◌≤◌, List, [], ◌∷◌, ◌++◌, Bool, true, false, not, length, get_or, set, take, drop, Ordering, Ok, Err, Result, MatchResult, refl, sym, ap, ◌∙◌, subst, arith, inl, inr, ⊎_elim, ◌⊎◌}
-use Rattle.std.specs.Prelude.{Option, Some, None, All, AllPairs, IsTrue, IsFalse, filter, insert, remove, slice_get}
+use Rattle.std.proofs.Common.{◌≡◌, ℕ, suc, ◌+◌, ◌<◌, ◌≤◌, List, ◌∷◌, ◌++◌, Bool, true, false, not, length, get_or, set, take, drop, Ok, Err, Result, MatchResult, refl, sym, ap, ◌∙◌, subst, arith, ⊎_elim}
+use Rattle.std.specs.Prelude.{Some, None, All, IsTrue, filter, insert, remove, slice_get}
 use Rattle.std.specs.List.{AllWithin, HoldsAt}
 use Rattle.std.specs.List.Sorted.{IsSortedBy, IsPartitionedBy, IsPartitionPoint, IsBinarySearchResult}
-use Rattle.std.specs.Ordering.{is_lt, is_eq, is_gt, nat_cmp, ordering_then, ordering_reverse}
+use Rattle.std.specs.Ordering.{is_lt, is_eq, ordering_reverse}
 use Rattle.std.specs.declared.cmp.Ordering.TheVariants.{Less, Equal, Greater}
 use Rattle.std.proofs.lemmas.List.{take-append-drop, set_split, get_or-take, get_or-drop, length-take-le, length-drop, drop_more}
 use Rattle.std.proofs.lemmas.List.Sorted.{searchable_from_sorted}
-use Rattle.std.proofs.lemmas.Bool.{true≢false, cases_eq}
+use Rattle.std.proofs.lemmas.Bool.{cases_eq}
 use Rattle.std.proofs.lemmas.Option.{slice_get_cases, slice_get_within, slice_get_read, get_or_from_slice_get}
 use Rattle.tab_keys.specs.Order.{key_cmp, key_lt, same_key}
 use Rattle.tab_keys.specs.TotalOrders.{key_cmp_total}
 use Rattle.tab_keys.specs.declared.keys.Key.{Key}
 use Rattle.tab_keys.proofs.OrderLaws.{key_lt_asymmetric, key_lt_transitive, key_lt_alike_left, key_lt_alike_right}
-use Rattle.tab_rows.specs.Rows.{RowView, AreRising, row_at, with_row, without_row, is_past}
+use Rattle.tab_rows.specs.Rows.{RowView, AreRising, row_at, with_row, without_row}
 use Rattle.tab_rows.specs.Places.{StandsAt, BelongsAt}
 use Rattle.tab_rows.proofs.Filters.{filter_back}
-use Rattle.tab_rows.proofs.RowLaws.{AllBelow, AllAbove, with_row-between, row_at-between, without_row-between, with_row-over, row_at-over, without_row-over}
+use Rattle.tab_rows.proofs.RowLaws.{with_row-between, row_at-between, without_row-between, with_row-over, row_at-over, without_row-over}
 
 -- ---- where the key belongs
 

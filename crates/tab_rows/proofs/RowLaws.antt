@@ -1,14 +1,11 @@
 -- Laws of ordered rows: what stands at each key after a row is put or taken out, and that the keys still rise.
-use Rattle.std.proofs.Common.{◌≡◌, ℕ, zero, suc, ◌+◌, ◌<◌, List, [], ◌∷◌, ◌++◌, Ordering, Bool, true, false, cond, not, ◌↔◌, ◌||◌, is_eq, is_lt, length, filter, refl, sym, ap, ◌∙◌, subst, arith}
-use Rattle.std.specs.Prelude.{Option, Some, None, find, All, AllPairs, IsTrue, IsFalse}
-use Rattle.std.specs.Option.{option_or}
-use Rattle.std.specs.Cmp.{IsEquivalence}
+use Rattle.std.proofs.Common.{◌≡◌, ℕ, ◌+◌, List, [], ◌∷◌, ◌++◌, Ordering, Bool, true, false, cond, not, ◌↔◌, ◌||◌, is_eq, is_lt, length, get_or, take, drop, filter, refl, sym, ap, ◌∙◌, subst, arith}
+use Rattle.std.specs.Prelude.{Some, None, find, All, IsTrue}
 use Rattle.std.proofs.lemmas.Bool.{true≢false}
-use Rattle.std.proofs.lemmas.List.{append-nil, length-append}
+use Rattle.std.proofs.lemmas.List.{append-nil, length-append, take-append-drop}
 use Rattle.std.proofs.lemmas.Option.{none-some, same_Some}
-use Rattle.std.proofs.lemmas.List.Elements.{All-nil, All-cons, All-head, All-tail, All-append, All-filter, All-weaker, filter_passes, filter-append, filter_agree}
+use Rattle.std.proofs.lemmas.List.Elements.{All-nil, All-cons, All-head, All-append, All-filter, All-weaker, filter_passes, filter-append, filter_agree}
 use Rattle.std.proofs.lemmas.List.Kept.{AllPairs-cons, AllPairs-filter}
-use Rattle.std.proofs.lemmas.List.Folds.{find-append}
 use Rattle.std.specs.Ordering.{nat_cmp, ordering_then}
 use Rattle.std.specs.declared.cmp.Ordering.TheVariants.{Less, Equal, Greater}
 use Rattle.std.proofs.lemmas.Cmp.{tied_itself}
@@ -16,7 +13,7 @@ use Rattle.tab_keys.specs.TotalOrders.{text_cmp_total}
 use Rattle.tab_keys.specs.Order.{text_cmp, key_cmp, key_lt, same_key, head_key, is_before}
 use Rattle.tab_keys.specs.declared.bounds.Bound.TheVariants.{At}
 use Rattle.tab_keys.specs.declared.keys.Key.{Key}
-use Rattle.tab_keys.proofs.OrderLaws.{Less_from_is_lt, key_lt_irreflexive, key_lt_transitive, key_lt_asymmetric, same_key_between, same_key_equivalence, key_lt_alike_left, key_lt_alike_right, same_key_not_lt, key_lt_to_le, key_lt_across, key_cmp_heads, is_before_At, is_before_own_bound}
+use Rattle.tab_keys.proofs.OrderLaws.{Less_from_is_lt, key_lt_transitive, key_lt_asymmetric, same_key_between, same_key_equivalence, key_lt_alike_left, key_lt_alike_right, same_key_not_lt, key_lt_to_le, key_lt_across, key_cmp_heads, is_before_At, is_before_own_bound}
 use Rattle.tab_rows.specs.Rows.{RowView, AreRising, row_at, with_row, without_row, rows_from, rows_past, is_past}
 use Rattle.tab_rows.proofs.Filters.{filter_all, filter_none, find_none, All-from_find_none, filter_front, filter_back, find_behind, find-filter, filter-filter, find_below, find_above, length-filters, AllPairs-head, AllPairs-tail, AllPairs-append, All-split}
 
@@ -36,9 +33,11 @@ apart_above a b h = same_key_equivalence.symm a b ∙ apart_below b a h
 
 -- ---- rows below a key, and rows above it
 
+-- the rows are below the key
 abbrev pub AllBelow : List RowView → Key → Type 0
 AllBelow rows key = All (λ row. IsTrue (key_lt row.key key)) rows
 
+-- the rows are above the key
 abbrev pub AllAbove : List RowView → Key → Type 0
 AllAbove rows key = All (λ row. IsTrue (key_lt key row.key)) rows
 
@@ -354,6 +353,7 @@ pub record CutAt (rows : List RowView) (key : Key) (row : RowView) : Type 0 wher
   pub same : IsTrue (same_key row.key key)
   pub above : AllAbove back key
 
+-- where a look-up finds a row, the rows are cut there
 pub cut_at : (rows : List RowView) (key : Key) (row : RowView) → AreRising rows → row_at rows key ≡ Some row → CutAt rows key row
 unfolding row_at
 cut_at [] key row rising here = absurd (none-some row here)
@@ -404,3 +404,45 @@ length-without_row rows key old rising here =
     let cut = cut_at rows key old rising here in
     let left : length (without_row rows key) ≡ length (cut.front ++ cut.back) = ap length (ap (λ xs. without_row xs key) cut.parts ∙ without_row-over cut.front old cut.back key cut.below cut.same cut.above) in
     omega (arith, left, length-append cut.front cut.back, length-append cut.front (old ∷ cut.back), ap length cut.parts)
+
+higher : (a b : Key) → not (key_lt a b) ≡ true → same_key a b ≡ false → key_lt b a ≡ true
+higher a b h apart = above_iff a b apart ∙ h
+
+-- rows that rise, cut where a key belongs that none of them has
+pub record CutBetween (rows : List RowView) (key : Key) : Type 0 where
+  pub front : List RowView
+  pub back : List RowView
+  pub parts : rows ≡ front ++ back
+  pub below : AllBelow front key
+  pub above : AllAbove back key
+
+-- where a look-up finds none, the rows are cut in two
+pub cut_between : (rows : List RowView) (key : Key) → AreRising rows → row_at rows key ≡ None → CutBetween rows key
+unfolding row_at rows_from
+cut_between rows key rising none =
+    let absent : All (λ row. same_key row.key key ≡ false) rows = All-from_find_none (λ row. same_key row.key key) rows none in
+    let kept : All (λ row. same_key row.key key ≡ false) (rows_from rows key) = All-filter (λ row. not (key_lt row.key key)) (λ row. same_key row.key key ≡ false) rows absent in
+    let passes : All (λ row. not (key_lt row.key key) ≡ true) (rows_from rows key) = filter_passes (λ row. not (key_lt row.key key)) rows in
+    record {
+      front = filter (λ row. key_lt row.key key) rows;
+      back = rows_from rows key;
+      parts = rows_at_key rows key rising;
+      below = all_below rows key;
+      above = λ k d within. higher (get_or (rows_from rows key) k d).key key (passes k d within) (kept k d within);
+    }
+
+-- a row that is put where it belongs stands there
+pub with_row-at : (rows : List RowView) (row : RowView) (place : ℕ) → AllBelow (take place rows) row.key → AllAbove (drop place rows) row.key → with_row rows row ≡ take place rows ++ row ∷ drop place rows
+with_row-at rows row place below above = ap (λ xs. with_row xs row) (sym (take-append-drop place rows)) ∙ with_row-between (take place rows) (drop place rows) row below above
+
+-- each of rows that rise stands at its key
+pub All-row_at : (rows : List RowView) → AreRising rows → All (λ row. row_at rows row.key ≡ Some row) rows
+unfolding row_at
+All-row_at [] rising = All-nil (λ row. row_at [] row.key ≡ Some row)
+All-row_at (first ∷ rows) rising =
+    let R = λ (a b : RowView). IsTrue (key_lt a.key b.key) in
+    let head : All (R first) rows = AllPairs-head R first rows rising in
+    let rest : All (λ row. row_at rows row.key ≡ Some row) rows = All-row_at rows (AllPairs-tail R first rows rising) in
+    All-cons (λ row. row_at (first ∷ rows) row.key ≡ Some row) first rows
+    (ap (λ b. cond b (Some first) (row_at rows first.key)) (same_key_itself first.key))
+    (λ k d within. ap (λ b. cond b (Some first) (row_at rows (get_or rows k d).key)) (apart_below first.key (get_or rows k d).key (head k d within)) ∙ rest k d within)

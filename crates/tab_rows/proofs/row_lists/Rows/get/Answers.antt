@@ -1,4 +1,4 @@
-use Rattle.std.proofs.Common.{◌≡◌, None, ap, sym, ◌∙◌, subst}
+use Rattle.std.proofs.Common.{ap, sym, ◌∙◌, subst}
 use Rattle.tab_rows.specs.Rows.{RowsView, row_at}
 use Rattle.tab_rows.specs.Places.{StandsAt, BelongsAt}
 use Rattle.tab_rows.proofs.PlaceLemmas.{row_at-read, row_at-belongs}

@@ -1,4 +1,4 @@
-use Rattle.std.proofs.Common.{◌≡◌, ◌<◌, Bool, List, None, Some, cond, insert, is_ok, get_or, set, vec_len, vec_capacity, ap, sym, ◌∙◌, subst, arith}
+use Rattle.std.proofs.Common.{◌≡◌, ◌<◌, Bool, List, None, cond, insert, get_or, set, vec_len, vec_capacity, ap, sym, ◌∙◌, subst, arith}
 use Rattle.tab_keys.specs.declared.keys.Key.{Key}
 use Rattle.tab_rows.specs.Rows.{RowView, RowsView, AreRising, row_at, with_row}
 use Rattle.tab_rows.specs.Places.{StandsAt, BelongsAt}
