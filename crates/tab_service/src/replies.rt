@@ -210,6 +210,3 @@ fn push_header(head: &mut String, name: &str, value: &str) -> Result<(), AllocEr
 {
     write!(head, "{name}: {value}\r\n")
 }
-
-#[cfg(test)]
-mod tests;
