@@ -21,11 +21,11 @@ use Rattle.tab_history.specs.declared.exchanges.Ask.{Ask}
 use Rattle.tab_history.specs.declared.exchanges.Ask.TheVariants.{Page as Listing, Change as Writing}
 use Rattle.tab_history.specs.declared.exchanges.Reply.{Reply}
 use Rattle.tab_history.specs.declared.exchanges.Reply.TheVariants.{Listed, Changed, Denied as Refusal}
-use Rattle.tab_history.specs.Pages.{page_of}
+use Rattle.tab_page.specs.Pages.{page_of}
 use Rattle.tab_history.proofs.ChangeLaws.{insert_stands, insert_refused, may_have_next, next_tick-raised, table_for-first}
-use Rattle.tab_history.proofs.PageLaws.{page_of-whole, filter-passed, key_lt-head}
-use Rattle.tab_history.specs.declared.pages.Options.{Options}
-use Rattle.tab_history.specs.declared.pages.Page.{Page}
+use Rattle.tab_page.proofs.PageLaws.{page_of-whole, filter-passed, key_lt-head}
+use Rattle.tab_page.specs.declared.pages.Options.{Options}
+use Rattle.tab_page.specs.declared.pages.Page.{Page}
 use Rattle.tab_drive.specs.Walk.{Walk, first_walk, first_world, most_rows, name_of, group_name, IsAnswer, reply_of, next_tick_after, walk_after, IsBeyond, IsUnserved}
 use Rattle.tab_drive.specs.declared.schedule.Scheduled.{Scheduled}
 use Rattle.tab_rows.proofs.RowLaws.{All-with_row, length-with_row}

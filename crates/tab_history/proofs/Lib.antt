@@ -1,3 +1,2 @@
 pub mod HistoryLaws
-pub mod PageLaws
 pub mod ChangeLaws

@@ -8,7 +8,7 @@ use Rattle.tab_rows.specs.Rows.{RowView}
 use Rattle.tab_history.specs.Groups.{ItemView}
 use Rattle.tab_history.specs.World.{World, table_of, raised, MayHaveTick}
 use Rattle.tab_history.specs.Changes.{group_outcome, group_keys}
-use Rattle.tab_history.specs.Pages.{page_of}
+use Rattle.tab_page.specs.Pages.{page_of}
 use Rattle.tab_history.specs.declared.groups.OpRefused.{OpRefused}
 use Rattle.tab_history.specs.declared.entries.Entry.{Entry}
 use Rattle.tab_history.specs.declared.entries.Entry.TheVariants.{Bounds, Resolve, Page, Change, Denied}

@@ -1,9 +1,10 @@
 ghost use Rattle.std.specs.Prelude.{◌≡◌, [], ◌∷◌, ◌++◌, OnOk, OnErr};
 
-use crate::{Group, OpRefused, Options, Page};
+use crate::{Group, OpRefused};
 use std::alloc::Global;
 use std::marker::Model;
 use tab_keys::{Bound, TableName};
+use tab_page::{Options, Page};
 
 /// Why a request was denied.
 #[derive(Clone, Copy, Debug, PartialEq, Eq)]

@@ -1,5 +1,6 @@
-use crate::{Denied, Group, Options, Page};
+use crate::{Denied, Group};
 use tab_keys::TableName;
+use tab_page::{Options, Page};
 
 /// What a request asks of the store.
 #[derive(Debug, Drop)]

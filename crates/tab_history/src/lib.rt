@@ -5,10 +5,7 @@
 mod entries;
 mod exchanges;
 mod groups;
-mod pages;
 
 pub use entries::{Bounds, Denied, Doubt, Entry, History};
 pub use exchanges::{Ask, Reply};
 pub use groups::{Group, Item, Op, OpRefused};
-pub use pages::{Names, Options, Page, PageRows, Select};
-pub use tab_rows::Row;

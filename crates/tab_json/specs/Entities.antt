@@ -14,8 +14,8 @@ use Rattle.tab_edm.specs.declared.values.Value.{Value}
 use Rattle.tab_edm.specs.declared.values.Value.TheVariants.{Text, Flag, Int32, Int64, Moment, Guid, Bytes}
 use Rattle.tab_edm.specs.declared.values.Property.{Property}
 use Rattle.tab_rows.specs.Rows.{RowView}
-use Rattle.tab_history.specs.declared.pages.Select.{Select}
-use Rattle.tab_history.specs.declared.pages.Select.TheVariants.{All, Names}
+use Rattle.tab_page.specs.declared.selects.Select.{Select}
+use Rattle.tab_page.specs.declared.selects.Select.TheVariants.{All, Names}
 use Rattle.tab_json.specs.Objects.{Member, object_of}
 use Rattle.tab_json.specs.declared.entities.JsonForm.{JsonForm}
 

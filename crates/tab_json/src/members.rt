@@ -12,7 +12,7 @@ use crate::{JsonForm, Version};
 use serde_json::{Map, Value as Json, put};
 use std::alloc::Global;
 use tab_edm::{Entity, GREATEST, Memory, Property, etag_text, moment_text};
-use tab_history::Select;
+use tab_page::Select;
 
 /// The members of an entity, the address of its metadata aside.
 pub(crate) fn entity_members(

@@ -15,7 +15,7 @@ use Rattle.tab_history.specs.declared.groups.Op.{Op as Operation}
 use Rattle.tab_history.specs.declared.groups.Op.TheVariants.{Insert}
 use Rattle.tab_history.specs.declared.groups.OpRefused.{OpRefused}
 use Rattle.tab_history.specs.declared.groups.OpRefused.TheVariants.{AlreadyThere, Memory as NoMemory}
-use Rattle.tab_history.specs.declared.pages.Select.TheVariants.{All}
+use Rattle.tab_page.specs.declared.selects.Select.TheVariants.{All}
 use Rattle.tab_json.specs.Entities.{VersionView, entity_json, page_json}
 use Rattle.tab_json.specs.Faults.{fault_json}
 use Rattle.tab_json.specs.declared.entities.JsonForm.{JsonForm}

@@ -14,7 +14,7 @@ use Rattle.tab_edm.specs.declared.values.Value.TheVariants.{Text}
 use Rattle.tab_history.specs.Groups.{ItemView}
 use Rattle.tab_history.specs.declared.exchanges.Ask.TheVariants.{Page, Change}
 use Rattle.tab_history.specs.declared.groups.Op.TheVariants.{Insert}
-use Rattle.tab_history.specs.declared.pages.Select.TheVariants.{All as AllNames}
+use Rattle.tab_page.specs.declared.selects.Select.TheVariants.{All as AllNames}
 use Rattle.tab_service.specs.declared.forms.Request.{Request}
 
 -- the request for the first page of all rows, at most 1,000

@@ -7,7 +7,8 @@ use crate::Request;
 use http::StatusCode;
 use std::alloc::{AllocError, Global};
 use tab_edm::{GREATEST, etag_text};
-use tab_history::{Ask, Denied, Group, Item, Op, OpRefused, Page, Reply, Select};
+use tab_history::{Ask, Denied, Group, Item, Op, OpRefused, Reply};
+use tab_page::{Page, Select};
 use tab_json::{JsonForm, Version, write_fault, write_page, write_version};
 use tab_keys::{Memory, TableName};
 

@@ -8,7 +8,8 @@ use crate::heads::Head;
 use crate::{Form, Request};
 use std::alloc::Global;
 use tab_edm::{Entity, TextValue};
-use tab_history::{Ask, Group, Item, Op, Options, Select};
+use tab_history::{Ask, Group, Item, Op};
+use tab_page::{Options, Select};
 use tab_keys::{KeyText, Memory, TableName};
 
 /// The most rows of a page.

@@ -1,7 +1,8 @@
 use crate::{Request, one_message_is_one_request, read_request};
 use std::alloc::{AllocError, Global};
 use std::test::Fail;
-use tab_history::{Ask, Select};
+use tab_history::Ask;
+use tab_page::Select;
 use tab_keys::Memory;
 
 const INSERT: &str =

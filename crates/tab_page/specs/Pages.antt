@@ -5,8 +5,8 @@ use Rattle.tab_keys.specs.declared.keys.Key.{Key}
 use Rattle.tab_keys.specs.declared.bounds.Bound.{Bound}
 use Rattle.tab_keys.specs.declared.bounds.Bound.TheVariants.{At, End}
 use Rattle.tab_rows.specs.Rows.{RowView}
-use Rattle.tab_history.specs.declared.pages.Options.{Options}
-use Rattle.tab_history.specs.declared.pages.Page.{Page}
+use Rattle.tab_page.specs.declared.pages.Options.{Options}
+use Rattle.tab_page.specs.declared.pages.Page.{Page}
 
 -- the key at which the page begins to look
 unfoldable pub start_key : ℕ → Options → Key

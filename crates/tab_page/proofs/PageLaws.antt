@@ -18,9 +18,9 @@ use Rattle.tab_keys.specs.declared.keys.Key.{Key}
 use Rattle.tab_keys.specs.declared.bounds.Bound.{Bound}
 use Rattle.tab_keys.specs.declared.bounds.Bound.TheVariants.{At, End}
 use Rattle.tab_rows.specs.Rows.{RowView}
-use Rattle.tab_history.specs.Pages.{start_key, end_above, is_listed, matches, prefix_length, most_looked_at, next_of, page_up_to, page_below, page_of}
-use Rattle.tab_history.specs.declared.pages.Options.{Options}
-use Rattle.tab_history.specs.declared.pages.Page.{Page}
+use Rattle.tab_page.specs.Pages.{start_key, end_above, is_listed, matches, prefix_length, most_looked_at, next_of, page_up_to, page_below, page_of}
+use Rattle.tab_page.specs.declared.pages.Options.{Options}
+use Rattle.tab_page.specs.declared.pages.Page.{Page}
 
 -- a test that all pass keeps all
 pub filter-passed : {A : Type 0} (test : A → Bool) (xs : List A) → AllByRecursion (λ x. test x ≡ true) xs → filter test xs ≡ xs

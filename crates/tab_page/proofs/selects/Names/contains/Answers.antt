@@ -1,6 +1,6 @@
 use Rattle.std.proofs.Common.{◌≡◌, List, [], ◌∷◌, ◌||◌, Bool, map, refl, ap, ◌∙◌, sym, string_bytes, bytes_eq}
 use Rattle.std.specs.List.{list_any}
-use Rattle.tab_history.proofs.pages.Names.contains.Goals as goal
+use Rattle.tab_page.proofs.selects.Names.contains.Goals as goal
 
 list_any-map : {X Y : Type 0} (p : Y → Bool) (f : X → Y) (xs : List X) → list_any p (map f xs) ≡ list_any (λ x. p (f x)) xs
 list_any-map p f [] = refl

@@ -1,0 +1,103 @@
+ghost use Rattle.std.specs.Prelude.{◌≡◌, IfOk};
+
+use crate::Select;
+use std::alloc::Global;
+use std::marker::Model;
+use tab_keys::{Bound, KeyText, Memory};
+use tab_rows::Row;
+
+/// What a query asks for: which properties, how many rows at the most, and where the page begins.
+#[derive(Debug, Drop)]
+pub struct Options {
+    pub select: Select,
+    pub top: u16,
+    /// The partition key and the row key at which the page begins, where that is not the table's beginning.
+    pub start: Option<(KeyText, KeyText)>,
+}
+
+impl Options {
+    pub fn try_copy(&self, alloc: Global) -> Result<Options, Memory>
+        ensures { IfOk result (λ copy. copy ≡ self.now) }
+    {
+        Ok(Options {
+            select: self.select.try_copy(alloc)?,
+            top: self.top,
+            start: copied_place(alloc, &self.start)?,
+        })
+    }
+}
+
+/// The rows of a page, in the order of their keys.
+#[derive(Debug, Drop)]
+pub struct PageRows {
+    rows: Vec<Row>,
+}
+
+impl Model for PageRows {
+    ghost use Rattle.std.specs.Prelude.{List, vec_items};
+    ghost use Rattle.tab_rows.specs.Rows.{RowView};
+
+    ghost Value = { List RowView };
+
+    ghost view = { λ page. page.rows.items };
+}
+
+impl PageRows {
+    pub fn new(rows: Vec<Row>) -> PageRows
+        ensures { result ≡ rows.items }
+    {
+        PageRows { rows }
+    }
+
+    pub fn as_slice(&self) -> &[Row]
+        ensures rows { result.now ≡ self.now }
+    {
+        self.rows.as_slice()
+    }
+
+    pub fn try_copy(&self, alloc: Global) -> Result<PageRows, Memory>
+        ensures { IfOk result (λ copy. copy ≡ self.now) }
+    {
+        let mut rows = Vec::new(alloc);
+        for row in &self.rows {
+            if rows.push(row.try_copy(alloc)?).is_err() {
+                return Err(Memory);
+            }
+        }
+        Ok(PageRows { rows })
+    }
+}
+
+/// A page of a query: its rows, the partition key and row key at which the next page begins, and the bound up to
+/// which it looked.
+#[derive(Debug, Drop)]
+pub struct Page {
+    pub rows: PageRows,
+    pub next: Option<(KeyText, KeyText)>,
+    pub end: Bound,
+}
+
+impl Page {
+    pub fn try_copy(&self, alloc: Global) -> Result<Page, Memory>
+        ensures { IfOk result (λ copy. copy ≡ self.now) }
+    {
+        Ok(Page {
+            rows: self.rows.try_copy(alloc)?,
+            next: copied_place(alloc, &self.next)?,
+            end: self.end.try_copy(alloc)?,
+        })
+    }
+}
+
+/// A copy of the place of a partition key and a row key.
+fn copied_place(
+    alloc: Global,
+    place: &Option<(KeyText, KeyText)>,
+) -> Result<Option<(KeyText, KeyText)>, Memory>
+    ensures { IfOk result (λ copy. copy ≡ place.now) }
+{
+    match place {
+        None => Ok(None),
+        Some((pk, rk)) => Ok(Some((pk.try_copy(alloc)?, rk.try_copy(alloc)?))),
+    }
+}
