@@ -54,8 +54,6 @@ impl Entity {
         rk_units: usize,
         properties: Vec<Property>,
     ) -> Result<Entity, EdmRefused>
-        requires pk_short { pk_units ≤ 1024 }
-        requires rk_short { rk_units ≤ 1024 }
         requires distinct { AllPairs (λ a b. a.name ≢ b.name) properties.items }
         requires unreserved { All (λ p. IsFalse (is_reserved p.name)) properties.items }
         requires in_time { All (λ p. IsInTime p.value) properties.items }
@@ -124,8 +122,6 @@ impl Entity {
         rk_units: usize,
         mut properties: Vec<Property>,
     ) -> Result<Entity, EdmRefused>
-        requires pk_short { pk_units ≤ 1024 }
-        requires rk_short { rk_units ≤ 1024 }
         requires rising { IsRising properties.items }
         requires unreserved { All (λ p. IsFalse (is_reserved p.name)) properties.items }
         requires in_time { All (λ p. IsInTime p.value) properties.items }
@@ -145,7 +141,7 @@ impl Entity {
             properties,
             pk_units,
             rk_units,
-            size,
+            size: size as u64,
         })
     }
 }
@@ -183,16 +179,15 @@ fn refused(fault: Fault, property: Property) -> EdmRefused
     }
 }
 
-fn entity_size(pk_units: usize, rk_units: usize, properties: &[Property]) -> u64
-    requires pk_short { pk_units ≤ 1024 }
-    requires rk_short { rk_units ≤ 1024 }
+// In 128 bits, since any two numbers of units may be given.
+fn entity_size(pk_units: usize, rk_units: usize, properties: &[Property]) -> u128
     requires few { length properties.now ≤ 252 }
     requires allowed { first_refusal properties.now ≡ None }
     ensures { result ≡ entity_size pk_units rk_units properties.now }
 {
-    let mut size = 4 + 2 * (pk_units + rk_units) as u64;
+    let mut size = 4 + 2 * (pk_units as u128 + rk_units as u128);
     for property in properties {
-        size += property.size();
+        size += property.size() as u128;
     }
     size
 }

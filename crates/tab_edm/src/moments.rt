@@ -12,6 +12,16 @@ const TICKS_IN_A_DAY: u64 = 864_000_000_000;
 /// The days from -9999-01-01, where jiff begins, to 1601-01-01.
 const FIRST_DAY: u32 = 4_236_813;
 
+/// The first year that is served. The calendar ends with the last one, 9999.
+const FIRST_YEAR: u32 = 1601;
+
+/// The last hour of a day, the last minute of an hour, and the last second of a minute.
+const LAST_HOUR: u32 = 23;
+
+const LAST_MINUTE: u32 = 59;
+
+const LAST_SECOND: u32 = 59;
+
 /// The text of a moment, with seven digits of its second's fraction.
 pub fn moment_text(alloc: Global, tick: u64) -> Result<String, Memory>
     requires { tick ≤ GREATEST }
@@ -154,7 +164,7 @@ fn days_to(year: u32, month: u32, day: u32) -> Option<u32>
     ensures { MatchOption result (IsServed (record { year = year; month = month; day = day }) → ⊥)
         (λ days. (days ≤ 3_067_670) × (date_after days ≡ record { year = year; month = month; day = day })) }
 {
-    if year < 1601 {
+    if year < FIRST_YEAR {
         return None;
     }
     match Date::new(year as i16, month as i8, day as i8) {
@@ -177,7 +187,7 @@ fn read_time(text: &[u8], colon: &[u8]) -> Option<u32>
     let hour = number_at(text, 0, 2)?;
     let minute = number_at(text, 2 + width, 2)?;
     let second = number_at(text, 4 + 2 * width, 2)?;
-    if hour > 23 || minute > 59 || second > 59 {
+    if hour > LAST_HOUR || minute > LAST_MINUTE || second > LAST_SECOND {
         return None;
     }
     Some((hour * 60 + minute) * 60 + second)

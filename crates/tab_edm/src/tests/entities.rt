@@ -16,6 +16,19 @@ fn measures_entities(rt: HostRuntime) -> Result<(), Fail> {
 }
 
 #[test]
+fn measures_keys(rt: HostRuntime) -> Result<(), Fail> {
+    for (pk_units, rk_units, want) in [
+        (0, 524_286, "made"),
+        (524_286, 1, "TooLarge"),
+        (usize::MAX, usize::MAX, "TooLarge"),
+    ] {
+        let made = Entity::new(pk_units, rk_units, Vec::new(rt.alloc()));
+        assert_eq!(rt; outcome(&made), want);
+    }
+    Ok(())
+}
+
+#[test]
 fn counts_properties(rt: HostRuntime) -> Result<(), Fail> {
     for (count, want) in [(0, "made"), (252, "made"), (253, "TooMany")] {
         let made = made(&rt, flags(rt.alloc(), count)?);

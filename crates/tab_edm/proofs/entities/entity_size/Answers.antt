@@ -4,8 +4,8 @@ use Rattle.tab_edm.specs.Entities.{entity_size}
 use Rattle.tab_edm.proofs.Refusals.{each_allowed}
 use Rattle.tab_edm.proofs.entities.entity_size.Goals as goal
 
-pub size-size-requires : goal.size-size-requires
-size-size-requires c = rw c.property-item.is (each_allowed c.args.properties.now c.requires.allowed _ _ c.loop-property-test.true)
+pub size-requires : goal.size-requires
+size-requires c = rw c.property-item.is (each_allowed c.args.properties.now c.requires.allowed _ _ c.loop-property-test.true)
 
 pub returns : goal.returns
 unfolding entity_size

@@ -5,4 +5,4 @@ use Rattle.tab_edm.proofs.entities.entity_size.Given as goal
 abbrev pub invariant-loop-property : goal.invariant-loop-property
 invariant-loop-property l =
     (l.size ≡ 4 + 2 * (l.pk_units + l.rk_units) + sum_by property_size (take l.property-index l.properties))
-    × (l.size ≤ 4100 + 66_568 * l.property-index)
+    × (l.size ≤ 4 + 2 * (l.pk_units + l.rk_units) + 66_568 * l.property-index)

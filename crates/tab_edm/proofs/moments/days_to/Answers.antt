@@ -9,7 +9,7 @@ returns-in-Ok c =
     let year = to_z_pos w16 c.args.year (omega arith) in
     let month = to_z_pos w8 c.args.month (omega arith) in
     let day = to_z_pos w8 c.args.day (omega arith) in
-    let h = days_to_date (record { year = c.args.year; month = c.args.month; day = c.args.day }) c.in-Ok.date c.days_since_min.result c.if-year-lt1601.false (omega arith) (rw (year, month, day) at c.in-Ok.ensures.value) c.days_since_min.ensures.value c.days_since_min.ensures.bound in
+    let h = days_to_date (record { year = c.args.year; month = c.args.month; day = c.args.day }) c.in-Ok.date c.days_since_min.result c.if-year-lt-FIRST_YEAR.false (omega arith) (rw (year, month, day) at c.in-Ok.ensures.value) c.days_since_min.ensures.value c.days_since_min.ensures.bound in
     (h.1, h.2)
 
 pub overflow_sub-result : goal.overflow_sub-result
@@ -17,7 +17,7 @@ overflow_sub-result c =
     let year = to_z_pos w16 c.args.year (omega arith) in
     let month = to_z_pos w8 c.args.month (omega arith) in
     let day = to_z_pos w8 c.args.day (omega arith) in
-    (days_to_date (record { year = c.args.year; month = c.args.month; day = c.args.day }) c.in-Ok.date c.days_since_min.result c.if-year-lt1601.false (omega arith) (rw (year, month, day) at c.in-Ok.ensures.value) c.days_since_min.ensures.value c.days_since_min.ensures.bound).0
+    (days_to_date (record { year = c.args.year; month = c.args.month; day = c.args.day }) c.in-Ok.date c.days_since_min.result c.if-year-lt-FIRST_YEAR.false (omega arith) (rw (year, month, day) at c.in-Ok.ensures.value) c.days_since_min.ensures.value c.days_since_min.ensures.bound).0
 
 pub returns-in-Err : goal.returns-in-Err
 returns-in-Err c = λ served.

@@ -26,8 +26,8 @@ pub returns-in_err-second : goal.returns-in_err-second
 returns-in_err-second c =
     rw c.from_residual-in_err-second.ensures (λ hour minute second hour_in minute_in second_in is. c.in_err-second.ensures second (omega arith) (fields_of_time c.args.colon.now c.args.text.now hour minute second is).seconds)
 
-pub returns-then-hour-gt23 : goal.returns-then-hour-gt23
-returns-then-hour-gt23 c = λ hour minute second hour_in minute_in second_in is.
+pub returns-then-hour-gt-LAST_HOUR : goal.returns-then-hour-gt-LAST_HOUR
+returns-then-hour-gt-LAST_HOUR c = λ hour minute second hour_in minute_in second_in is.
     let same = time_same c.args.colon.now c.args.text.now hour minute second c.in_ok-hour.hour c.in_ok-minute.minute c.in_ok-second.second c.in_ok-hour.ensures.0 c.in_ok-minute.ensures.0 c.in_ok-second.ensures.0 (record {
       long = c.if-text-width.false;
       first_colon = c.if-not-has_at.ensures.0 refl;
@@ -36,7 +36,7 @@ returns-then-hour-gt23 c = λ hour minute second hour_in minute_in second_in is.
       minutes = c.in_ok-minute.ensures.1;
       seconds = c.in_ok-second.ensures.1;
     }) hour_in minute_in second_in is in
-    let either = c.then-hour-gt23.either in
+    let either = c.then-hour-gt-LAST_HOUR.either in
     omega arith
 
 pub returns : goal.returns
@@ -48,4 +48,4 @@ returns c =
       hours = c.in_ok-hour.ensures.1;
       minutes = c.in_ok-minute.ensures.1;
       seconds = c.in_ok-second.ensures.1;
-    }) c.if-hour-gt23.false c.if-minute-gt59.false c.if-second-gt59.false
+    }) c.if-hour-gt-LAST_HOUR.false c.if-minute-gt-LAST_MINUTE.false c.if-second-gt-LAST_SECOND.false
