@@ -1,0 +1,13 @@
+//! Requests of HTTP/1.0 and HTTP/1.1 from the bytes of a connection, however they come cut, and replies written
+//! whole.
+#![tactic(auto)]
+
+mod decimals;
+mod fields;
+mod messages;
+mod refusals;
+mod texts;
+
+pub use messages::{Header, Headers, Message};
+pub use refusals::HttpRefused;
+pub use texts::{Bytes, Text};
