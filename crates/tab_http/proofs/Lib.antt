@@ -1,2 +1,3 @@
 mod DecimalLemmas
+mod HeadLemmas
 mod HeaderLemmas

@@ -4,10 +4,12 @@
 
 mod decimals;
 mod fields;
+mod heads;
 mod messages;
 mod refusals;
 mod texts;
 
+pub use heads::Head;
 pub use messages::{Header, Headers, Message};
 pub use refusals::HttpRefused;
 pub use texts::{Bytes, Text};

@@ -1,0 +1,99 @@
+ghost use Rattle.std.specs.Prelude.{◌≡◌, ℕ, ◌<◌, List, length, map, All, IsUtf8, IfOk, MatchOption};
+ghost use Rattle.httparse.specs.Grammar.{RequestHead, ReadsRequest};
+ghost use Rattle.httparse.specs.Spans.{IsHeaderWithin, span_bytes};
+ghost use Rattle.tab_http.specs.Heads.{HasNoHead, IsHead, IsFrontHead, header_at};
+
+use crate::messages::{Header, Headers};
+use crate::texts::{Bytes, Text};
+use httparse::Status;
+use httparse::spans::{EMPTY_HEADER_SPAN, HeaderSpan, parse_request};
+use std::alloc::Global;
+use std::str;
+use tab_outside::Memory;
+
+/// The most bytes that a head may have.
+pub(crate) const LONGEST_HEAD: usize = 32_768;
+
+/// The most headers that a head may have.
+const MOST_HEADERS: usize = 64;
+
+/// The head of a request.
+#[derive(Debug, Drop)]
+pub struct Head {
+    pub method: Text,
+    pub target: Text,
+    /// The minor version, 0 or 1.
+    pub minor: u8,
+    pub headers: Headers,
+    /// How many bytes it takes.
+    pub len: usize,
+}
+
+impl Head {
+    /// The head at the front of the bytes, if one of at most 64 headers ends within 32,768 bytes.
+    pub fn read(alloc: Global, bytes: &[u8]) -> Result<Option<Head>, Memory>
+        ensures { IfOk result (λ found. MatchOption found (HasNoHead bytes.now) (IsHead bytes.now)) }
+    {
+        let size = bytes.len().min(LONGEST_HEAD);
+        Head::read_front(alloc, &bytes[..size])
+    }
+
+    /// The head at the front of the bytes, if one has at most 64 headers.
+    fn read_front(alloc: Global, bytes: &[u8]) -> Result<Option<Head>, Memory>
+        ensures { IfOk result (λ found. MatchOption found
+            ((h : RequestHead) (rest : List ℕ) → ReadsRequest bytes.now h rest → 64 < length h.fields)
+            (λ head. (h : RequestHead) × IsFrontHead bytes.now h head)) }
+    {
+        let mut spans = [EMPTY_HEADER_SPAN; MOST_HEADERS];
+        let Ok(Status::Complete(found)) = parse_request(bytes, &mut spans) else {
+            return Ok(None);
+        };
+        let method = text_of(alloc, found.method.of(bytes))?;
+        let target = text_of(alloc, found.path.of(bytes))?;
+        let headers = headers_of(alloc, bytes, &spans[..found.headers])?;
+        Ok(Some(Head {
+            method,
+            target,
+            minor: found.version,
+            headers,
+            len: found.len,
+        }))
+    }
+}
+
+/// The headers that the spans cover.
+fn headers_of(alloc: Global, bytes: &[u8], spans: &[HeaderSpan]) -> Result<Headers, Memory>
+    requires within { All (IsHeaderWithin (length bytes.now)) spans.now }
+    requires names { All (λ span. IsUtf8 (span_bytes bytes.now span.name)) spans.now }
+    ensures { IfOk result (λ headers. headers ≡ map (header_at bytes.now) spans.now) }
+{
+    let mut headers = Vec::new(alloc);
+    for span in spans {
+        let name = text_of(alloc, span.name.of(bytes))?;
+        let value = bytes_of(alloc, span.value.of(bytes))?;
+        let Ok(()) = headers.push(Header { name, value }) else {
+            return Err(Memory);
+        };
+    }
+    Ok(Headers::new(headers))
+}
+
+fn text_of(alloc: Global, bytes: &[u8]) -> Result<Text, Memory>
+    requires { IsUtf8 bytes.now }
+    ensures { IfOk result (λ text. text ≡ bytes.now) }
+{
+    let text = str::from_utf8(bytes).unwrap();
+    match String::from_str(alloc, text) {
+        Ok(text) => Ok(Text::new(text)),
+        Err(_) => Err(Memory),
+    }
+}
+
+fn bytes_of(alloc: Global, bytes: &[u8]) -> Result<Bytes, Memory>
+    ensures { IfOk result (λ copy. copy ≡ bytes.now) }
+{
+    match Vec::from_slice(alloc, bytes) {
+        Ok(copy) => Ok(Bytes::new(copy)),
+        Err(_) => Err(Memory),
+    }
+}
