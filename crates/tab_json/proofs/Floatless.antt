@@ -15,6 +15,7 @@ use Rattle.tab_rows.specs.Rows.{RowView}
 use Rattle.tab_json.specs.Objects.{Member, with_members, object_of}
 use Rattle.tab_json.specs.Entities.{VersionView, version_of, value_data, annotated_type, annotation, is_selected, if_selected, property_members, key_members, etag, entity_members, metadata, metadata_address, entity_data, page_data}
 use Rattle.tab_json.specs.Faults.{message_data, fault_data}
+use Rattle.tab_json.specs.Tables.{table_name, table_data, tables_data}
 use Rattle.tab_json.specs.declared.entities.JsonForm.{JsonForm}
 
 or_neither : (x y : Bool) → x ≡ false → y ≡ false → (x || y) ≡ false
@@ -142,3 +143,17 @@ floatless-message_data value = floatless-object_of _ (refl, (refl, tt))
 pub floatless-fault_data : (code value : List ℕ) → has_float (fault_data code value) ≡ false
 unfolding fault_data AreFloatless
 floatless-fault_data code value = floatless-object_of _ (floatless-object_of _ (refl, (floatless-message_data value, tt)), tt)
+
+pub floatless-table_data : (account name : List ℕ) (form : JsonForm) → has_float (table_data account name form) ≡ false
+unfolding table_data AreFloatless
+floatless-table_data account name form = floatless-object_of _ (refl, AreFloatless-metadata form _)
+
+floatless-names : (names : List (List ℕ)) → items_have_float (items_of (map (λ name. object_of (table_name name ∷ [])) names)) ≡ false
+floatless-names [] = refl
+floatless-names (name ∷ names) =
+    or_neither (has_float (object_of (table_name name ∷ []))) _ (floatless-object_of (table_name name ∷ []) (AreFloatless-text (codes "TableName") name)) (floatless-names names)
+
+pub floatless-tables_data : (account : List ℕ) (names : List (List ℕ)) (form : JsonForm) → has_float (tables_data account names form) ≡ false
+unfolding tables_data AreFloatless
+floatless-tables_data account names form =
+    floatless-object_of _ (AreFloatless-append _ _ (AreFloatless-metadata form (metadata_address account (codes "Tables"))) (floatless-names names, tt))

@@ -8,9 +8,9 @@ use serde_json::{Map, Value as Json, push, put};
 use std::alloc::Global;
 use std::marker::Model;
 use tab_edm::{Entity, GREATEST, Memory as OutOfMemory};
+use tab_keys::{KeyText, Memory, TableName};
 use tab_page::{Page, Select};
 use tab_rows::Row;
-use tab_keys::{KeyText, Memory, TableName};
 
 /// How entities are written: with minimal metadata or with none, and which of their properties.
 #[derive(Debug, Drop)]

@@ -1,10 +1,16 @@
 //! JSON texts of entities, of pages of them and of faults, in the forms of OData.
 #![tactic(auto)]
 
+mod bodies;
 mod entities;
 mod faults;
+mod meanings;
 mod members;
+mod tables;
+mod types;
 mod values;
 
+pub use bodies::{BodyEntity, JsonRefused, Properties, read_entity, read_table};
 pub use entities::{JsonForm, Version, write_entity, write_page, write_version};
 pub use faults::write_fault;
+pub use tables::{write_table, write_tables};
