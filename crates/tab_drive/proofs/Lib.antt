@@ -13,3 +13,5 @@ pub mod SessionSteps
 pub mod Turns
 pub mod Schedules
 pub mod Words
+pub mod Completeness
+pub mod Texts

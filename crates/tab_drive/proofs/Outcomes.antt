@@ -1,5 +1,5 @@
 -- Outcomes put together from their pieces.
-use Rattle.std.proofs.Common.{◌≡◌, ℕ, List, [], ◌∷◌, ◌++◌, length, refl, sym, ap, ◌∙◌, append_assoc}
+use Rattle.std.proofs.Common.{◌≡◌, ℕ, List, [], ◌∷◌, ◌++◌, length, refl, sym, append_assoc}
 use Rattle.std.specs.Prelude.{codes, decimal}
 use Rattle.tab_drive.specs.Walk.{reply_outcome, done_outcome}
 

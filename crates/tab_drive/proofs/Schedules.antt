@@ -1,16 +1,16 @@
 -- Exchanges put together, and what a run that goes on or stops has come to.
-use Rattle.std.proofs.Common.{◌≡◌, ℕ, ◌+◌, ◌≤◌, ◌<◌, List, [], ◌∷◌, ◌++◌, length, take, refl, sym, ap, ◌∙◌, subst, arith, append_assoc, append-nil, length-append}
+use Rattle.std.proofs.Common.{◌≡◌, ℕ, ◌+◌, List, [], ◌∷◌, ◌++◌, length, take, refl, sym, ap, ◌∙◌, subst, arith, append-nil, length-append}
 use Rattle.std.specs.Prelude.{Option, Some, None}
 use Rattle.std.specs.Io.KnownBytes.{Consumes, Appends}
 use Rattle.std.proofs.KnownBytes.{Consumes-trans, Appends-trans}
 use Rattle.std.proofs.lemmas.Grind.{flat_map-append}
-use Rattle.tab_history.specs.Legality.{State, Legal, after, after_all}
+use Rattle.tab_history.specs.Legality.{State, Legal, after_all}
 use Rattle.tab_history.specs.declared.entries.Entry.{Entry}
 use Rattle.tab_history.proofs.HistoryLaws.{after_all-append, Legal-append}
 use Rattle.tab_drive.specs.Schedule.{spelling, end_line}
-use Rattle.tab_drive.specs.Walk.{Walk, Exchange, first_walk, first_state, opening, Follows, walk_after, walk_after_all, bytes_of, entries_of, text_of, IsRefused}
+use Rattle.tab_drive.specs.Walk.{Walk, Exchange, first_walk, first_state, opening, Follows, walk_after, walk_after_all, bytes_of, entries_of, text_of}
 use Rattle.tab_drive.specs.Sessions.{Keeps}
-use Rattle.tab_drive.specs.Runs.{Traffic, Exchanged, Turned, TurnedShort, TurnedIdle, StopsTurn, Ran, Finished, RefusedNext, LeftOff, Unwritten, Stops}
+use Rattle.tab_drive.specs.Runs.{Exchanged, Turned, TurnedIdle, StopsTurn, LeftOff, Stops}
 use Rattle.tab_drive.specs.declared.session.Session.{Session}
 use Rattle.tab_drive.specs.declared.serving.Stop.{Stop}
 use Rattle.tab_drive.specs.declared.serving.Stop.TheVariants.{End, Refused, ReadFault, WriteFault, Memory}
@@ -136,11 +136,14 @@ stopped account moment l0 l1 l2 t0 t1 t2 old new done End going halts = record {
 }
 stopped account moment l0 l1 l2 t0 t1 t2 old new done Refused going halts = record {
   exchanges = going.exchanges;
-  ran = record { follows = going.follows; acted = halts.2 ∙ going.history };
+  ran = record { follows = going.follows; acted = halts.1.history ∙ going.history };
   behind = l1;
   read = going.read;
   refused = halts.0;
-  written = written_still t0 t1 t2 (text_of going.exchanges) halts.1 going.written;
+  part = halts.1.part;
+  within = halts.1.are;
+  further = halts.1.read;
+  written = written_still t0 t1 t2 (text_of going.exchanges) halts.1.written going.written;
   counted = going.counted;
 }
 stopped account moment l0 l1 l2 t0 t1 t2 old new done ReadFault going halts = left_off _ account moment l0 l1 l2 t0 t1 t2 old new done going halts
@@ -167,7 +170,7 @@ pub stopped_legal : (account : List ℕ) (moment : ℕ) (l0 l1 l2 t0 t1 t2 : Opt
     → StopsTurn account (walk_after_all (first_walk moment) going.exchanges) (record { left_before = l1; left = l2; taken_before = t1; taken = t2 }) old new stop
     → Legal first_state new.history.items
 stopped_legal account moment l0 l1 l2 t0 t1 t2 old new done End going halts = legal_still old new halts.history going.legal
-stopped_legal account moment l0 l1 l2 t0 t1 t2 old new done Refused going halts = legal_still old new halts.2 going.legal
+stopped_legal account moment l0 l1 l2 t0 t1 t2 old new done Refused going halts = legal_still old new halts.1.history going.legal
 stopped_legal account moment l0 l1 l2 t0 t1 t2 old new done ReadFault going halts = legal_still old new halts.history going.legal
 stopped_legal account moment l0 l1 l2 t0 t1 t2 old new done WriteFault going halts = legal_push account moment going.exchanges halts.exchange old new going.history going.legal halts.exchanged
 stopped_legal account moment l0 l1 l2 t0 t1 t2 old new done Memory going halts = legal_still old new halts.history going.legal

@@ -1,9 +1,8 @@
 -- What a session's steps add to a walk.
-use Rattle.std.proofs.Common.{◌≡◌, ℕ, ◌+◌, ◌≤◌, ◌<◌, ◌⊎◌, max, List, [], ◌∷◌, ◌++◌, length, refl, sym, ap, ◌∙◌, subst, arith, inl, inr, append-nil}
-use Rattle.std.specs.Prelude.{codes, Option, Some, None, ⊤, Bool, true, false, is_some, get_or, option_copied}
+use Rattle.std.proofs.Common.{◌≡◌, ℕ, ◌+◌, max, List, [], ◌∷◌, ◌++◌, length, refl, sym, ap, ◌∙◌, subst, arith, inl, inr, append-nil}
+use Rattle.std.specs.Prelude.{Option, Some, None, Bool, true, false, is_some, get_or, option_copied}
 use Rattle.std.specs.Borrow.{Bor}
 use Rattle.tab_edm.specs.Entities.{EntityView}
-use Rattle.tab_edm.specs.declared.TheConstants.{GREATEST}
 use Rattle.tab_rows.specs.Rows.{RowView, row_at}
 use Rattle.tab_history.specs.Groups.{ItemView, item_key}
 use Rattle.tab_history.specs.declared.groups.Op.{Op as Operation}
@@ -15,11 +14,10 @@ use Rattle.tab_history.specs.declared.exchanges.Ask.TheVariants.{Page as Listing
 use Rattle.tab_history.specs.declared.exchanges.Reply.{Reply}
 use Rattle.tab_history.specs.declared.exchanges.Reply.TheVariants.{Listed, Changed, Denied as Refusal}
 use Rattle.tab_service.specs.declared.forms.Request.{Request}
-use Rattle.tab_service.specs.Requests.{IsRequest, IsQuery, IsInsert}
+use Rattle.tab_service.specs.Requests.{IsRequest}
 use Rattle.tab_service.specs.Replies.{SuitsAsk, Suits, reply_text, reply_to_ask, denied_reply, memory_fault}
-use Rattle.tab_drive.specs.Walk.{Walk, name_of, IsBeyond, IsUnserved, walk_after, next_tick_after, Happens, reply_outcome, done_outcome}
-use Rattle.tab_drive.specs.Sessions.{goods, IsServing, Keeps, IsServedAsk, IsDecided, Writes, Collides, entry_of, entries_for, rows_then, next_then, Stepped, Replied}
-use Rattle.tab_drive.specs.declared.schedule.Scheduled.{Scheduled}
+use Rattle.tab_drive.specs.Walk.{Walk, IsBeyond, IsUnserved, walk_after, done_outcome}
+use Rattle.tab_drive.specs.Sessions.{goods, Keeps, IsServedAsk, IsDecided, Writes, Collides, entry_of, entries_for, rows_then, next_then, Stepped, Replied}
 use Rattle.tab_drive.specs.declared.schedule.Scheduled.TheVariants.{Now, Call}
 use Rattle.tab_drive.specs.declared.session.Session.{Session}
 use Rattle.tab_drive.proofs.WalkSteps.{adds, serving_after, not_beyond}

@@ -1,13 +1,13 @@
 -- What one turn of a run comes to.
-use Rattle.std.proofs.Common.{◌≡◌, ℕ, ◌+◌, ◌≤◌, ◌<◌, ◌⊎◌, List, [], ◌∷◌, ◌++◌, refl, sym, inl, inr}
-use Rattle.std.specs.Prelude.{Option, Some, None}
+use Rattle.std.proofs.Common.{◌≡◌, ℕ, ◌≤◌, ◌<◌, List, refl, inl, inr}
+use Rattle.std.specs.Prelude.{Option}
 use Rattle.std.specs.Io.KnownBytes.{Consumes, Appends}
 use Rattle.tab_outside.specs.Transfers.{TookFront}
-use Rattle.tab_drive.specs.Schedule.{spelling, Fits, end_line}
-use Rattle.tab_drive.specs.Reading.{IfTold}
-use Rattle.tab_drive.specs.Walk.{Walk, last_number, IsRefused, IsOutOfForm}
+use Rattle.tab_drive.specs.Schedule.{spelling, Fits}
+use Rattle.tab_drive.specs.Reading.{IfTold, TookPart}
+use Rattle.tab_drive.specs.Walk.{Walk, last_number, IsRefused}
 use Rattle.tab_drive.specs.Sessions.{Stepped, IsOutOfFormEvent}
-use Rattle.tab_drive.specs.Runs.{Traffic, Exchanged, Turned, TurnedShort, TurnedIdle}
+use Rattle.tab_drive.specs.Runs.{Traffic, Exchanged, Turned, TurnedShort, TurnedIdle, IsOneAtMost}
 use Rattle.tab_drive.specs.declared.schedule.Scheduled.{Scheduled}
 use Rattle.tab_drive.specs.declared.schedule.Scheduled.TheVariants.{Now, Call}
 use Rattle.tab_drive.specs.declared.session.Session.{Session}
@@ -32,7 +32,7 @@ turned_short account walk traffic event text old new fits numbered stepped read 
     record { exchange = record { event = event; entries = stepped.entries; text = text }; exchanged = exchanged account walk event text old new fits numbered stepped; read = read; written = written }
 
 -- no number is left for an event
-pub refused_number : (account : List ℕ) (walk : Walk) (before left : Option (List ℕ)) (event : Scheduled) → Fits event → last_number ≤ walk.number
+refused_number : (account : List ℕ) (walk : Walk) (before left : Option (List ℕ)) (event : Scheduled) → Fits event → last_number ≤ walk.number
     → Consumes before left (spelling event) → IfTold before (IsRefused account walk)
 refused_number account walk before left event fits spent read =
     told_front before left (spelling event) (IsRefused account walk) read (λ rest. inr (inr (spent, λ more is. event_not_end event rest more fits is)))
@@ -43,3 +43,17 @@ pub refused_form : (account : List ℕ) (walk : Walk) (before left : Option (Lis
 refused_form account walk before left (Now moment) fits out read = absurd out
 refused_form account walk before left (Call message) fits out read =
     told_front before left (spelling (Call message)) (IsRefused account walk) read (λ rest. inr (inl (message, rest, fits, refl, out)))
+
+-- a part was taken that holds no event
+pub cut_short : (traffic : Traffic) (old new : Session) → TookPart traffic.left_before traffic.left → traffic.taken ≡ traffic.taken_before → new.history.items ≡ old.history.items
+    → TurnedIdle IsOneAtMost traffic old new
+cut_short traffic old new took written history =
+    record { part = took.part; are = inr (took.no_event, took.within); read = took.consumed; written = written; history = history }
+
+pub stopped_number : (account : List ℕ) (walk : Walk) (traffic : Traffic) (event : Scheduled) (session : Session) → Fits event → last_number ≤ walk.number
+    → Consumes traffic.left_before traffic.left (spelling event) → traffic.taken ≡ traffic.taken_before
+    → IfTold traffic.left_before (IsRefused account walk) × TurnedIdle IsOneAtMost traffic session session
+stopped_number account walk traffic event session fits spent read written = (
+  refused_number account walk traffic.left_before traffic.left event fits spent read,
+  record { part = spelling event; are = inl (event, fits, refl); read = read; written = written; history = refl },
+)

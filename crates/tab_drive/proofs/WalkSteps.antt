@@ -1,6 +1,6 @@
 -- What a decided request adds to a walk.
-use Rattle.std.proofs.Common.{◌≡◌, ℕ, ◌+◌, ◌≤◌, ◌<◌, ◌⊎◌, max, List, [], ◌∷◌, ◌++◌, length, refl, sym, ap, ◌∙◌, subst, arith, inl, inr, not, true, false, cond}
-use Rattle.std.specs.Prelude.{codes, Option, Some, None, Result, Ok, Err, ⊤}
+use Rattle.std.proofs.Common.{◌≡◌, ℕ, ◌+◌, ◌≤◌, ◌<◌, ◌⊎◌, max, List, [], ◌∷◌, length, refl, sym, ap, ◌∙◌, subst, arith, inl, inr, not, true, false}
+use Rattle.std.specs.Prelude.{codes, Option, Some, None, Ok, Err}
 use Rattle.std.specs.List.{AllByRecursion}
 use Rattle.tab_keys.specs.Order.{head_key, key_lt}
 use Rattle.tab_keys.specs.TableNames.{folded}
@@ -12,10 +12,9 @@ use Rattle.tab_rows.specs.Rows.{RowView, row_at, rows_from, with_row}
 use Rattle.tab_history.specs.Groups.{ItemView, item_key}
 use Rattle.tab_history.specs.World.{table_of, floor_of, IsNextTick, MayHaveTick}
 use Rattle.tab_history.specs.Changes.{group_outcome, group_keys}
-use Rattle.tab_history.specs.Legality.{Legal, after, after_all}
+use Rattle.tab_history.specs.Legality.{Legal, after_all}
 use Rattle.tab_history.specs.declared.groups.Op.TheVariants.{Insert}
 use Rattle.tab_history.specs.declared.groups.OpRefused.{OpRefused}
-use Rattle.tab_history.specs.declared.groups.OpRefused.TheVariants.{AlreadyThere}
 use Rattle.tab_history.specs.declared.entries.Denied.TheVariants.{Op, Memory}
 use Rattle.tab_history.specs.declared.exchanges.Ask.{Ask}
 use Rattle.tab_history.specs.declared.exchanges.Ask.TheVariants.{Page as Listing, Change as Writing}
@@ -26,7 +25,7 @@ use Rattle.tab_history.proofs.ChangeLaws.{insert_stands, insert_refused, may_hav
 use Rattle.tab_page.proofs.PageLaws.{page_of-whole, filter-passed, key_lt-head}
 use Rattle.tab_page.specs.declared.pages.Options.{Options}
 use Rattle.tab_page.specs.declared.pages.Page.{Page}
-use Rattle.tab_drive.specs.Walk.{Walk, first_walk, first_world, most_rows, name_of, group_name, IsAnswer, reply_of, next_tick_after, walk_after, IsBeyond, IsUnserved}
+use Rattle.tab_drive.specs.Walk.{Walk, first_walk, first_world, most_rows, group_name, IsAnswer, reply_of, next_tick_after, walk_after, IsBeyond, IsUnserved}
 use Rattle.tab_drive.specs.declared.schedule.Scheduled.{Scheduled}
 use Rattle.tab_rows.proofs.RowLaws.{All-with_row, length-with_row}
 use Rattle.std.proofs.lemmas.List.Elements.{recursion_from_All, All-from_recursion}

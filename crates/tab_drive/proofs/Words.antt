@@ -1,6 +1,6 @@
 -- Lists of three words.
-use Rattle.std.proofs.Common.{◌≡◌, ℕ, ◌≤◌, ◌<◌, List, [], ◌∷◌, length, get_or, refl, sym, ap, ◌∙◌, subst, arith, true}
-use Rattle.std.specs.Prelude.{map, string_bytes, String, codes}
+use Rattle.std.proofs.Common.{◌≡◌, ℕ, ◌≤◌, ◌<◌, List, [], ◌∷◌, length, get_or, arith}
+use Rattle.std.specs.Prelude.{codes}
 
 same_three : {A : Type 0} (a b c x y z : A) → x ≡ a → y ≡ b → z ≡ c → a ∷ b ∷ c ∷ [] ≡ x ∷ y ∷ z ∷ []
 same_three a b c x y z p q r = cc

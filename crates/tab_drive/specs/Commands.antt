@@ -31,6 +31,10 @@ status_of ReadFault = 3
 status_of WriteFault = 4
 status_of Memory = 7
 
+-- the exit statuses that a run may have
+abbrev pub exit_statuses : List ℕ
+exit_statuses = 0 ∷ 1 ∷ 2 ∷ 3 ∷ 4 ∷ 7 ∷ []
+
 -- its last line
 abbrev pub line_of : Stop → ℕ → List ℕ
 line_of End done = []

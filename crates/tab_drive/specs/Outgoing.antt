@@ -1,5 +1,5 @@
 -- What an event gives to be written, and what a write left.
-use Rattle.std.specs.Prelude.{ℕ, List, codes, Option, Result, MatchResult}
+use Rattle.std.specs.Prelude.{ℕ, List, Option, Result, MatchResult}
 use Rattle.std.specs.Io.KnownBytes.{Appends}
 use Rattle.tab_outside.specs.Transfers.{TookFront}
 use Rattle.tab_service.specs.Replies.{memory_fault}

@@ -1,13 +1,13 @@
 -- What a run of a schedule reads, writes and leaves as its history, by how it stops.
-use Rattle.std.specs.Prelude.{◌≡◌, ℕ, ◌+◌, ◌<◌, ◌≤◌, ◌⊎◌, List, [], ◌∷◌, ◌++◌, length, take, codes, decimal, Option, Some, None}
-use Rattle.std.specs.Io.KnownBytes.{Consumes, Appends, Keeps as Kept}
+use Rattle.std.specs.Prelude.{◌≡◌, ℕ, ◌<◌, ◌≤◌, ◌⊎◌, List, [], ◌∷◌, ◌++◌, length, take, codes, decimal, Option}
+use Rattle.std.specs.Io.KnownBytes.{Consumes, Appends}
 use Rattle.tab_outside.specs.Faults.{Rose}
 use Rattle.tab_outside.specs.Transfers.{TookFront}
 use Rattle.tab_history.specs.Legality.{Legal}
 use Rattle.tab_history.specs.declared.entries.Entry.{Entry}
 use Rattle.tab_drive.specs.Schedule.{spelling, Fits, end_line, IsNoEvent}
 use Rattle.tab_drive.specs.Reading.{IfTold, IsWithinOne}
-use Rattle.tab_drive.specs.Walk.{Walk, Exchange, first_walk, first_state, opening, last_number, Happens, Follows, walk_after, walk_after_all, bytes_of, entries_of, text_of, IsRefused}
+use Rattle.tab_drive.specs.Walk.{Walk, Exchange, first_walk, opening, last_number, Happens, Follows, walk_after, walk_after_all, bytes_of, entries_of, text_of, IsRefused}
 use Rattle.tab_drive.specs.Sessions.{Keeps}
 use Rattle.tab_drive.specs.declared.schedule.Scheduled.{Scheduled}
 use Rattle.tab_drive.specs.declared.session.Session.{Session}
@@ -54,19 +54,18 @@ pub record TurnedIdle (P : List ℕ → Type 0) (traffic : Traffic) (old new : S
   pub written : traffic.taken ≡ traffic.taken_before
   pub history : new.history.items ≡ old.history.items
 
--- at most one event, or less than a whole one
-abbrev pub IsOneAtMost : List ℕ → Type 0
-IsOneAtMost bytes = ((event : Scheduled) × (bytes ≡ spelling event)) ⊎ IsNoEvent bytes
-
 -- less than a whole event was taken, and no more than one line or one message with what calls it
 abbrev pub IsCutShort : List ℕ → Type 0
 IsCutShort bytes = IsNoEvent bytes × IsWithinOne bytes
 
+-- at most one event, or less than a whole one
+abbrev pub IsOneAtMost : List ℕ → Type 0
+IsOneAtMost bytes = ((event : Scheduled) × Fits event × (bytes ≡ spelling event)) ⊎ IsCutShort bytes
+
 -- how a turn stopped the run
 abbrev pub StopsTurn : List ℕ → Walk → Traffic → Session → Session → Stop → Type 0
 StopsTurn account walk traffic old new End = TurnedIdle (λ part. part ≡ end_line) traffic old new
-StopsTurn account walk traffic old new Refused =
-    IfTold traffic.left_before (IsRefused account walk) × (traffic.taken ≡ traffic.taken_before) × (new.history.items ≡ old.history.items)
+StopsTurn account walk traffic old new Refused = IfTold traffic.left_before (IsRefused account walk) × TurnedIdle IsOneAtMost traffic old new
 StopsTurn account walk traffic old new ReadFault = TurnedIdle IsCutShort traffic old new
 StopsTurn account walk traffic old new WriteFault = TurnedShort account walk traffic old new
 StopsTurn account walk traffic old new Memory = TurnedIdle IsOneAtMost traffic old new
@@ -86,13 +85,16 @@ pub record Finished (account : List ℕ) (moment : ℕ) (traffic : Traffic) (his
   pub written : Appends traffic.taken_before traffic.taken (text_of exchanges)
   pub counted : done ≡ length exchanges
 
--- the event behind these exchanges is refused
+-- the event behind these exchanges is refused, and nothing was taken from the source behind it
 pub record RefusedNext (account : List ℕ) (moment : ℕ) (traffic : Traffic) (history : List Entry) (done : ℕ) : Type 0 where
   pub exchanges : List Exchange
   pub ran : Ran account moment history exchanges
   pub behind : Option (List ℕ)
   pub read : Consumes traffic.left_before behind (bytes_of exchanges)
   pub refused : IfTold behind (IsRefused account (walk_after_all (first_walk moment) exchanges))
+  pub part : List ℕ
+  pub within : IsOneAtMost part
+  pub further : Consumes behind traffic.left part
   pub written : Appends traffic.taken_before traffic.taken (text_of exchanges)
   pub counted : done ≡ length exchanges
 

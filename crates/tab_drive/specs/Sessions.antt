@@ -1,5 +1,5 @@
 -- What a session keeps of a walk, what a request comes to, and what one step does.
-use Rattle.std.specs.Prelude.{◌≡◌, ℕ, ◌+◌, ◌≤◌, max, List, [], ◌∷◌, ◌++◌, length, codes, Option, Some, None, Result, Ok, Err, vec_items, ⊤}
+use Rattle.std.specs.Prelude.{◌≡◌, ℕ, ◌+◌, ◌≤◌, max, List, [], ◌∷◌, ◌++◌, length, codes, Option, Some, None, Ok, Err, ⊤}
 use Rattle.std.specs.List.{AllByRecursion}
 use Rattle.tab_keys.specs.Order.{head_key}
 use Rattle.tab_keys.specs.declared.bounds.Bound.TheVariants.{At, End}
@@ -20,7 +20,7 @@ use Rattle.tab_history.specs.declared.exchanges.Reply.{Reply}
 use Rattle.tab_history.specs.declared.exchanges.Reply.TheVariants.{Listed, Changed, Denied as Refusal}
 use Rattle.tab_service.specs.declared.forms.Request.{Request}
 use Rattle.tab_service.specs.Replies.{reply_text}
-use Rattle.tab_drive.specs.Walk.{Walk, first_world, most_rows, name_of, Happens, IsAnswer, reply_of, reply_outcome, walk_after, IsOutOfForm}
+use Rattle.tab_drive.specs.Walk.{Walk, first_world, most_rows, name_of, Happens, reply_outcome, walk_after, IsOutOfForm}
 use Rattle.tab_drive.specs.declared.schedule.Scheduled.{Scheduled}
 use Rattle.tab_drive.specs.declared.schedule.Scheduled.TheVariants.{Call}
 use Rattle.tab_drive.specs.declared.session.Session.{Session}

@@ -1,15 +1,13 @@
 -- The walk through a schedule: what each event takes from the history and gives as text.
-use Rattle.std.specs.Prelude.{◌≡◌, ℕ, ◌+◌, ◌-◌, ◌^◌, ◌<◌, ◌≤◌, ◌⊎◌, max, List, [], ◌∷◌, ◌++◌, length, codes, decimal, Option, Some, None, Result, Ok, Err, IfOk, ⊤}
+use Rattle.std.specs.Prelude.{◌≡◌, ℕ, ◌+◌, ◌-◌, ◌^◌, ◌<◌, ◌≤◌, ◌⊎◌, max, List, [], ◌∷◌, ◌++◌, length, codes, decimal, Option, Some, None, Result, Ok, Err, ⊤}
 use Rattle.std.specs.List.{flat_map}
-use Rattle.tab_keys.specs.declared.bounds.Bound.{Bound}
 use Rattle.tab_keys.specs.declared.bounds.Bound.TheVariants.{At}
 use Rattle.tab_edm.specs.declared.TheConstants.{GREATEST}
 use Rattle.tab_history.specs.Groups.{ItemView}
-use Rattle.tab_history.specs.World.{World, Named}
+use Rattle.tab_history.specs.World.{World}
 use Rattle.tab_history.specs.Legality.{State, accepted, after_all}
 use Rattle.tab_history.specs.declared.entries.Entry.{Entry}
 use Rattle.tab_history.specs.declared.entries.Entry.TheVariants.{Bounds, Resolve, Page, Change, Denied}
-use Rattle.tab_history.specs.declared.entries.Denied.{Denied as Why}
 use Rattle.tab_history.specs.declared.entries.Denied.TheVariants.{Op, Memory}
 use Rattle.tab_history.specs.declared.entries.Doubt.{Doubt}
 use Rattle.tab_history.specs.declared.entries.Doubt.TheVariants.{Change as Changing}

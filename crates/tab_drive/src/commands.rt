@@ -1,10 +1,11 @@
-ghost use Rattle.std.specs.Prelude.{◌≡◌, ◌↔◌, ◌<◌, ◌-◌, ◌^◌, ℕ, List, [], ◌≤◌, map, flat_map, string_bytes, MatchOption};
+ghost use Rattle.std.specs.Prelude.{◌≡◌, ◌↔◌, ◌⊎◌, ◌<◌, ◌-◌, ◌^◌, ℕ, List, [], ◌≤◌, map, flat_map, string_bytes, Contains, MatchOption, Some};
 ghost use Rattle.std.specs.List.{list_all};
 ghost use Rattle.tab_outside.specs.Faults.{Rose};
 ghost use Rattle.tab_history.specs.Legality.{Legal};
 ghost use Rattle.tab_drive.specs.Walk.{first_state};
 ghost use Rattle.tab_drive.specs.Runs.{TookLine, usage_line};
-ghost use Rattle.tab_drive.specs.Commands.{IsDrive, IsNoCommand, is_account, is_account_byte, status_of, line_of, Drives, SaidOnly};
+ghost use Rattle.tab_drive.specs.Commands.{IsDrive, IsNoCommand, is_account, is_account_byte, status_of, line_of, Drives, SaidOnly, exit_statuses};
+ghost use Rattle.tab_drive.specs.Completeness.{IsServable};
 
 use crate::outgoing::write_pieces;
 use crate::serving::{Stop, serve};
@@ -42,6 +43,15 @@ pub fn run<S: Source, K: Sink, D: Disk, C: Clock>(
     ensures drives { (account : List ℕ) → IsDrive (map string_bytes words.now) account → Drives account (C.moment clock.new)
         (record { left_before = S.left input.old; left = S.left input.new; taken_before = K.taken output.old; taken = K.taken output.new })
         (K.faults output.old) (K.faults output.new) result.status result.history result.done }
+
+    // No other status comes.
+    ensures status { Contains exit_statuses result.status }
+
+    // A whole schedule, no event of which is refused, is served to its end where neither source nor sink fails, if
+    // memory is found.
+    ensures complete { (account bytes : List ℕ) → IsDrive (map string_bytes words.now) account → S.left input.old ≡ Some bytes
+        → IsServable account (C.moment clock.new) bytes → (Rose (S.faults input.old) (S.faults input.new) → ⊥) → (Rose (K.faults output.old) (K.faults output.new) → ⊥)
+        → (result.status ≡ 0) ⊎ (result.status ≡ 7) }
 
     // Other words are refused, and nothing is read.
     ensures words { (result.status ≡ 1) ↔ IsNoCommand (map string_bytes words.now) }

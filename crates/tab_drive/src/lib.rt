@@ -3,6 +3,7 @@
 
 mod commands;
 mod copies;
+mod laws;
 mod lines;
 mod outgoing;
 mod reading;
@@ -11,6 +12,7 @@ mod serving;
 mod session;
 
 pub use commands::{Ended, run};
+pub use laws::{one_text, served_or_refused};
 pub use outgoing::{Outgoing, write_outgoing, write_pieces};
 pub use reading::{NextEvent, Unread, next_event};
 pub use schedule::{RawMessage, Scheduled};

@@ -14,8 +14,8 @@ use crate::schedule::{RawMessage, Scheduled};
 use std::alloc::Global;
 use tab_edm::{Entity, GREATEST};
 use tab_history::{Ask, Bounds, Denied, Entry, Group, Op, OpRefused, Reply};
-use tab_page::{Page, PageRows};
 use tab_keys::{Bound, Key, KeyText, Memory, TableName};
+use tab_page::{Page, PageRows};
 use tab_rows::{Row, Rows};
 use tab_service::{Request, read_request, reply_bytes};
 

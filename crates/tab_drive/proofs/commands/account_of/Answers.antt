@@ -1,5 +1,5 @@
-use Rattle.std.proofs.Common.{◌≡◌, ◌∙◌, sym, ap, List, ℕ, ◌∷◌, []}
-use Rattle.std.specs.Prelude.{map, string_bytes, codes}
+use Rattle.std.proofs.Common.{◌∙◌, sym, ap}
+use Rattle.std.specs.Prelude.{map, string_bytes}
 use Rattle.std.specs.Cmp.Lexicographic.{bytes_decides}
 use Rattle.tab_drive.specs.Commands.{is_account}
 use Rattle.tab_drive.proofs.Words.{three_items, drive_words}

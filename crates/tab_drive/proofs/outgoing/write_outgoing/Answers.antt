@@ -1,4 +1,4 @@
-use Rattle.std.proofs.Common.{◌≡◌, ℕ, List, subst}
+use Rattle.std.proofs.Common.{ℕ, List, subst}
 use Rattle.tab_drive.specs.Outgoing.{Wrote}
 use Rattle.tab_drive.proofs.Outcomes.{done_piece}
 use Rattle.tab_drive.proofs.outgoing.write_outgoing.Goals as goal

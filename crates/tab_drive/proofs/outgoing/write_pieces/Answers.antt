@@ -1,5 +1,4 @@
-use Rattle.std.proofs.Common.{◌≡◌, ℕ, List, [], drop, suc, subst, sym}
-use Rattle.std.specs.Prelude.{flat_map}
+use Rattle.std.proofs.Common.{ℕ, List, [], subst, sym}
 use Rattle.tab_outside.specs.Transfers.{TookFront}
 use Rattle.tab_drive.proofs.Fronts.{took_more, err_wrote, pieces_at}
 use Rattle.tab_drive.proofs.outgoing.write_pieces.Goals as goal

@@ -1,6 +1,6 @@
-use Rattle.std.proofs.Common.{◌≡◌, refl, arith}
+use Rattle.std.proofs.Common.{arith}
 use Rattle.tab_drive.specs.Walk.{first_walk, walk_after_all}
-use Rattle.tab_drive.proofs.Schedules.{Going, going_first, going_on, stopped, stopped_legal}
+use Rattle.tab_drive.proofs.Schedules.{going_first, going_on, stopped, stopped_legal}
 use Rattle.tab_drive.proofs.serving.serve.Goals as goal
 
 pub loop-stop-init : goal.loop-stop-init

@@ -1,4 +1,3 @@
-use Rattle.std.proofs.Common.{refl}
 use Rattle.tab_drive.proofs.SessionSteps.{served_ask, replied_steps, same_message}
 use Rattle.tab_drive.proofs.session.Session.call.Goals as goal
 

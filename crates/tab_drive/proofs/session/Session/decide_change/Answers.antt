@@ -1,4 +1,4 @@
-use Rattle.std.proofs.Common.{◌≡◌, ◌∙◌, sym, ap, refl, Option}
+use Rattle.std.proofs.Common.{◌∙◌, sym, ap, Option}
 use Rattle.std.specs.Prelude.{is_some}
 use Rattle.tab_rows.specs.Rows.{RowView}
 use Rattle.tab_edm.specs.Entities.{EntityView}

@@ -1,4 +1,4 @@
-use Rattle.std.proofs.Common.{refl, length, ap, sym, List, ℕ}
+use Rattle.std.proofs.Common.{length, ap, sym, List, ℕ}
 use Rattle.tab_drive.specs.Walk.{reply_outcome}
 use Rattle.tab_drive.proofs.SessionSteps.{suits_decided, denied_text}
 use Rattle.tab_drive.proofs.session.Session.plan.Goals as goal
