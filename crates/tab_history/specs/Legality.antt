@@ -1,19 +1,19 @@
 -- Which histories are those of one ordered map.
-use Rattle.std.specs.Prelude.{◌≡◌, ℕ, List, [], ◌∷◌, ◌==◌, find, AllPairs, IsTrue, Option, Some, None, option_and_then, Result, Ok, Err, ⊤}
+use Rattle.std.specs.Prelude.{◌≡◌, ℕ, List, [], ◌∷◌, ◌==◌, find, All, AllPairs, IsTrue, Option, Some, None, option_and_then, Result, Ok, Err, ⊤}
 use Rattle.std.specs.Result.{result_unwrap_or}
 use Rattle.tab_keys.specs.Order.{bound_lt}
 use Rattle.tab_keys.specs.declared.bounds.Bound.{Bound}
-use Rattle.tab_keys.specs.declared.bounds.Bound.TheVariants.{At}
-use Rattle.tab_rows.specs.Rows.{RowView}
+use Rattle.tab_keys.specs.declared.bounds.Bound.TheVariants.{At, End}
+use Rattle.tab_rows.specs.Rows.{RowView, row_at}
 use Rattle.tab_history.specs.Groups.{ItemView}
 use Rattle.tab_history.specs.World.{World, table_of, raised, MayHaveTick}
 use Rattle.tab_history.specs.Changes.{group_outcome, group_keys}
 use Rattle.tab_page.specs.Pages.{page_of}
 use Rattle.tab_history.specs.declared.groups.OpRefused.{OpRefused}
 use Rattle.tab_history.specs.declared.entries.Entry.{Entry}
-use Rattle.tab_history.specs.declared.entries.Entry.TheVariants.{Bounds, Resolve, Page, Change, Denied}
+use Rattle.tab_history.specs.declared.entries.Entry.TheVariants.{Bounds, Resolve, Get, Page, Change, Denied}
 use Rattle.tab_history.specs.declared.entries.Denied.{Denied as Why}
-use Rattle.tab_history.specs.declared.entries.Denied.TheVariants.{Op, Memory}
+use Rattle.tab_history.specs.declared.entries.Denied.TheVariants.{NotFound, Op, Memory}
 use Rattle.tab_history.specs.declared.entries.Doubt.{Doubt}
 use Rattle.tab_history.specs.declared.entries.Doubt.TheVariants.{Change as Changed}
 
@@ -33,6 +33,7 @@ table_for tables ask = option_and_then (λ last. last.1) (find (λ last. last.0 
 abbrev pub accepted : Entry → Option Doubt
 accepted (Bounds bounds) = None
 accepted (Resolve ask name table) = None
+accepted (Get ask table pk rk found) = None
 accepted (Page ask table options page) = None
 accepted (Change ask now table group (Ok tick)) = Some (Changed table group tick)
 accepted (Change ask now table group (Err refusal)) = None
@@ -51,6 +52,7 @@ world_after world (Some operation) = acted world operation
 abbrev pub bounds_after : List Bound → Entry → List Bound
 bounds_after bounds (Bounds later) = later
 bounds_after bounds (Resolve ask name table) = bounds
+bounds_after bounds (Get ask table pk rk found) = bounds
 bounds_after bounds (Page ask table options page) = bounds
 bounds_after bounds (Change ask now table group result) = bounds
 bounds_after bounds (Denied ask why) = bounds
@@ -58,6 +60,7 @@ bounds_after bounds (Denied ask why) = bounds
 abbrev pub tables_after : List (ℕ × Option ℕ) → Entry → List (ℕ × Option ℕ)
 tables_after tables (Resolve ask name table) = (ask, table) ∷ tables
 tables_after tables (Bounds later) = tables
+tables_after tables (Get ask table pk rk found) = tables
 tables_after tables (Page ask table options page) = tables
 tables_after tables (Change ask now table group result) = tables
 tables_after tables (Denied ask why) = tables
@@ -75,20 +78,24 @@ abbrev pub after_all : State → List Entry → State
 after_all state [] = state
 after_all state (entry ∷ entries) = after_all (after state entry) entries
 
--- the bounds cut the whole space of keys: the first stands before all keys, and they rise
+-- the bounds cut the whole space of keys: the first stands before all keys, they rise, and none stands past all keys
 abbrev pub AreBounds : List Bound → Type 0
 AreBounds [] = ⊥
-AreBounds (bound ∷ bounds) = (bound ≡ At 0 []) × AllPairs (λ a b. IsTrue (bound_lt a b)) (bound ∷ bounds)
+AreBounds (bound ∷ bounds) =
+    (bound ≡ At 0 []) × AllPairs (λ a b. IsTrue (bound_lt a b)) (bound ∷ bounds) × All (λ b. IsTrue (bound_lt b End)) (bound ∷ bounds)
 
 -- the reasons for which a request may be denied whatever the world is
 abbrev pub IsDenial : Why → Type 0
 IsDenial Memory = ⊤
+IsDenial NotFound = ⊥
 IsDenial (Op refusal) = ⊥
 
 -- an entry that a history may go on with
 abbrev pub Allows : State → Entry → Type 0
 Allows state (Bounds bounds) = AreBounds bounds
 Allows state (Resolve ask name table) = table ≡ table_of state.world.names name
+Allows state (Get ask table pk rk found) =
+    (table_for state.tables ask ≡ Some table) × (found ≡ row_at state.world.rows (record { table = table; pk = pk; rk = rk }))
 Allows state (Page ask table options page) =
     (table_for state.tables ask ≡ Some table) × (page ≡ page_of state.world.rows state.bounds table options)
 Allows state (Change ask now table group (Ok tick)) =

@@ -3,12 +3,15 @@ ghost use Rattle.std.specs.Prelude.{◌≡◌, [], ◌∷◌, ◌++◌, OnOk, On
 use crate::{Group, OpRefused};
 use std::alloc::Global;
 use std::marker::Model;
-use tab_keys::{Bound, TableName};
+use tab_keys::{Bound, KeyText, TableName};
 use tab_page::{Options, Page};
+use tab_rows::Row;
 
 /// Why a request was denied.
 #[derive(Clone, Copy, Debug, PartialEq, Eq)]
 pub enum Denied {
+    /// No row is at the key.
+    NotFound,
     /// An operation of its group was refused.
     Op(OpRefused),
     /// No memory was found.
@@ -40,6 +43,14 @@ pub enum Entry {
         ask: u64,
         name: TableName,
         table: Option<u64>,
+    },
+    /// The row at a key was given, or that there is none.
+    Get {
+        ask: u64,
+        table: u64,
+        pk: KeyText,
+        rk: KeyText,
+        found: Option<Row>,
     },
     /// A page was given.
     Page {

@@ -1,10 +1,17 @@
 use crate::{Denied, Group};
-use tab_keys::TableName;
+use tab_keys::{KeyText, TableName};
 use tab_page::{Options, Page};
+use tab_rows::Row;
 
 /// What a request asks of the store.
 #[derive(Debug, Drop)]
 pub enum Ask {
+    /// The row at one key.
+    Get {
+        name: TableName,
+        pk: KeyText,
+        rk: KeyText,
+    },
     /// One page of a table's rows.
     Page { name: TableName, options: Options },
     /// A change of rows.
@@ -14,6 +21,8 @@ pub enum Ask {
 /// What the store answers.
 #[derive(Debug, Drop)]
 pub enum Reply {
+    /// The row that was asked for.
+    Found(Row),
     /// The page that was asked for.
     Listed(Page),
     /// The change stands, with this tick.

@@ -10,6 +10,6 @@ mod refusals;
 mod texts;
 
 pub use heads::Head;
-pub use messages::{Header, Headers, Message};
+pub use messages::{Header, Headers, Message, first_value};
 pub use refusals::HttpRefused;
 pub use texts::{Bytes, Text};

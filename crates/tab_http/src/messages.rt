@@ -14,7 +14,7 @@ pub struct Header {
 
 impl Header {
     /// Whether it has that name, without ASCII case.
-    pub(crate) fn is_named(&self, name: &str) -> bool
+    pub fn is_named(&self, name: &str) -> bool
         ensures { result ≡ is_named name.now self.now }
     {
         self.name.as_str().eq_ignore_ascii_case(name)
@@ -77,7 +77,7 @@ impl Message {
 }
 
 /// The value of the first header of that name, without ASCII case.
-pub(crate) fn first_value<'h>(headers: &'h [Header], name: &str) -> Option<&'h [u8]>
+pub fn first_value<'h>(headers: &'h [Header], name: &str) -> Option<&'h [u8]>
     ensures { option_copied result ≡ first_value name.now headers.now }
 {
     let found = headers.iter().find(|header| header.is_named(name))?;

@@ -1,8 +1,5 @@
-mod Empty
-mod Entities
-mod Inserts
-pub mod Laws
-mod Members
-mod Messages
-mod Paths
+pub mod DecisionLaws
+mod EntityLemmas
+mod QuoteLemmas
 mod ReplyLemmas
+mod TextLemmas

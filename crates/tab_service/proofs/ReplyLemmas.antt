@@ -26,3 +26,19 @@ pub written_in_turn : (status : ℕ) (first second last : Header) (more : List H
     → h6 ≡ head_text status (first ∷ second ∷ (more ++ last ∷ []))
 written_in_turn status first second last more h1 h2 h3 h4 h5 h6 p1 p2 p3 p4 p5 p6 =
     in_turn _ _ _ _ _ _ h1 h2 h3 h4 h5 h6 p1 p2 p3 p4 p5 p6 ∙ parts status first second last more
+
+bodiless_parts : (status : ℕ) (last : Header) (more : List Header)
+    → status_line status ++ flat_map header_line more ++ header_line last ++ codes "\r\n" ≡ head_text status (more ++ last ∷ [])
+unfolding head_text
+bodiless_parts status last more = simp (flat_map-append header_line, append-nil, append_assoc)
+
+-- a head with no lines of a body
+pub bodiless_in_turn : (status : ℕ) (last : Header) (more : List Header) (h1 h2 h3 h4 : List ℕ)
+    → h1 ≡ status_line status
+    → h2 ≡ h1 ++ flat_map header_line more
+    → h3 ≡ h2 ++ header_line last
+    → h4 ≡ h3 ++ codes "\r\n"
+    → h4 ≡ head_text status (more ++ last ∷ [])
+bodiless_in_turn status last more h1 h2 h3 h4 p1 p2 p3 p4 =
+    p4 ∙ ap (λ h. h ++ codes "\r\n") (p3 ∙ ap (λ h. h ++ header_line last) (p2 ∙ ap (λ h. h ++ flat_map header_line more) p1))
+    ∙ bodiless_parts status last more

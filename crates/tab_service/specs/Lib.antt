@@ -1,4 +1,5 @@
-pub mod Requests
-pub mod Heads
-pub mod Bodies
+pub mod Targets
+pub mod Preferences
+pub mod Decisions
 pub mod Replies
+pub mod Refusals

@@ -1,37 +1,51 @@
 -- The bytes of replies.
-use Rattle.std.specs.Prelude.{◌≡◌, ℕ, ◌≤◌, List, [], ◌∷◌, ◌++◌, length, flat_map, codes, decimal, true, ⊤}
+use Rattle.std.specs.Prelude.{◌≡◌, ℕ, ◌≤◌, List, [], ◌∷◌, ◌++◌, length, flat_map, codes, decimal, Bool, Option, Some, None, if◌then◌else◌, ⊤}
 use Rattle.http.specs.StatusCode.{status_text}
 use Rattle.tab_edm.specs.Moments.{text_of_etag}
 use Rattle.tab_edm.specs.declared.TheConstants.{GREATEST}
 use Rattle.tab_history.specs.Groups.{ItemView}
 use Rattle.tab_rows.specs.Rows.{RowView}
 use Rattle.tab_history.specs.declared.entries.Denied.{Denied as Why}
-use Rattle.tab_history.specs.declared.entries.Denied.TheVariants.{Op, Memory}
+use Rattle.tab_history.specs.declared.entries.Denied.TheVariants.{NotFound, Op, Memory}
 use Rattle.tab_history.specs.declared.exchanges.Ask.{Ask}
-use Rattle.tab_history.specs.declared.exchanges.Ask.TheVariants.{Page, Change}
+use Rattle.tab_history.specs.declared.exchanges.Ask.TheVariants.{Get, Page, Change}
 use Rattle.tab_history.specs.declared.exchanges.Reply.{Reply}
-use Rattle.tab_history.specs.declared.exchanges.Reply.TheVariants.{Listed, Changed, Denied}
+use Rattle.tab_history.specs.declared.exchanges.Reply.TheVariants.{Found, Listed, Changed, Denied}
 use Rattle.tab_history.specs.declared.groups.Op.{Op as Operation}
 use Rattle.tab_history.specs.declared.groups.Op.TheVariants.{Insert}
 use Rattle.tab_history.specs.declared.groups.OpRefused.{OpRefused}
 use Rattle.tab_history.specs.declared.groups.OpRefused.TheVariants.{AlreadyThere, Memory as NoMemory}
-use Rattle.tab_page.specs.declared.selects.Select.TheVariants.{All}
-use Rattle.tab_json.specs.Entities.{VersionView, entity_json, page_json}
+use Rattle.tab_json.specs.Entities.{VersionView, version_of, entity_json, page_json}
 use Rattle.tab_json.specs.Faults.{fault_json}
 use Rattle.tab_json.specs.declared.entities.JsonForm.{JsonForm}
+use Rattle.tab_service.specs.declared.forms.Form.{Form}
+use Rattle.tab_service.specs.declared.forms.Prefer.{Prefer}
+use Rattle.tab_service.specs.declared.forms.Prefer.TheVariants.{Unsaid, Content, NoContent}
 use Rattle.tab_service.specs.declared.forms.Request.{Request}
 
 -- ---- which replies may come
 
--- a reply to such an ask: a page for a page, a tick or a refusal for a change of one row, and want of memory for either
+-- a reply to such an ask: a row or none for a key, a page for a page, a tick or a refusal for a change of one row, and
+-- want of memory for each
 abbrev pub SuitsAsk : Ask → Reply → Type 0
+SuitsAsk (Get name pk rk) (Found row) = ⊤
+SuitsAsk (Get name pk rk) (Listed page) = ⊥
+SuitsAsk (Get name pk rk) (Changed tick) = ⊥
+SuitsAsk (Get name pk rk) (Denied NotFound) = ⊤
+SuitsAsk (Get name pk rk) (Denied (Op refusal)) = ⊥
+SuitsAsk (Get name pk rk) (Denied Memory) = ⊤
+SuitsAsk (Page name options) (Found row) = ⊥
 SuitsAsk (Page name options) (Listed page) = ⊤
 SuitsAsk (Page name options) (Changed tick) = ⊥
-SuitsAsk (Page name options) (Denied Memory) = ⊤
+SuitsAsk (Page name options) (Denied NotFound) = ⊥
 SuitsAsk (Page name options) (Denied (Op refusal)) = ⊥
+SuitsAsk (Page name options) (Denied Memory) = ⊤
+SuitsAsk (Change group) (Found row) = ⊥
 SuitsAsk (Change group) (Listed page) = ⊥
 SuitsAsk (Change group) (Changed tick) = (length group ≡ 1) × (tick ≤ GREATEST)
-SuitsAsk (Change group) (Denied why) = length group ≡ 1
+SuitsAsk (Change group) (Denied NotFound) = ⊥
+SuitsAsk (Change group) (Denied (Op refusal)) = length group ≡ 1
+SuitsAsk (Change group) (Denied Memory) = ⊤
 
 -- the reply is one to such a request
 unfoldable pub Suits : Request → Reply → Type 0
@@ -78,45 +92,76 @@ abbrev pub refused_reply : OpRefused → List ℕ
 refused_reply (AlreadyThere index) = fault_reply 409 (codes "EntityAlreadyExists") (codes "The entity is there already.")
 refused_reply NoMemory = memory_fault
 
--- the reply to a refused request
+-- the reply to a denied request
 unfoldable pub denied_reply : Why → List ℕ
+denied_reply NotFound = fault_reply 404 (codes "ResourceNotFound") (codes "The entity is not there.")
 denied_reply (Op refusal) = refused_reply refusal
 denied_reply Memory = memory_fault
 
--- all properties, with minimal metadata
-abbrev pub minimal_form : JsonForm
-minimal_form = record { minimal = true; select = All }
+-- the type of a body with minimal metadata, or with none
+abbrev pub json_type : Bool → List ℕ
+json_type minimal =
+    if minimal then codes "application/json;odata=minimalmetadata;streaming=true;charset=utf-8"
+    else codes "application/json;odata=nometadata;streaming=true;charset=utf-8"
 
-abbrev pub minimal_type : List ℕ
-minimal_type = codes "application/json;odata=minimalmetadata;streaming=true;charset=utf-8"
+-- the header that names a version
+abbrev pub etag_header : ℕ → Header
+etag_header tick = (codes "ETag", text_of_etag tick)
 
 -- the page of a table
-unfoldable pub page_reply : List ℕ → List ℕ → List RowView → List ℕ
-page_reply account name rows = reply_with_body 200 minimal_type [] (page_json account name minimal_form rows)
+unfoldable pub page_reply : List ℕ → List ℕ → JsonForm → List RowView → List ℕ
+page_reply account name form rows = reply_with_body 200 (json_type form.minimal) [] (page_json account name form rows)
 
--- the entity that was inserted, with the ETag of its version
-unfoldable pub insert_reply : List ℕ → List ℕ → VersionView → List ℕ
-insert_reply account name version =
-    reply_with_body 201 minimal_type ((codes "ETag", text_of_etag version.tick) ∷ []) (entity_json account name minimal_form version)
+-- one row
+unfoldable pub row_reply : List ℕ → List ℕ → JsonForm → RowView → List ℕ
+row_reply account name form row =
+    reply_with_body 200 (json_type form.minimal) (etag_header row.tick ∷ []) (entity_json account name form (version_of row))
+
+-- the headers that say which preference counted
+abbrev pub applied : Option (List ℕ) → List Header
+applied None = []
+applied (Some preference) = (codes "Preference-Applied", preference) ∷ []
+
+-- the entity that was inserted
+unfoldable pub created_reply : Form → List ℕ → VersionView → Option (List ℕ) → List ℕ
+created_reply form name version preference =
+    reply_with_body 201 (json_type form.json.minimal) (etag_header version.tick ∷ applied preference) (entity_json form.account name form.json version)
+
+-- a reply without a body
+unfoldable pub bodiless_reply : ℕ → List Header → List ℕ
+bodiless_reply status more = head_text status (more ++ version_header ∷ [])
+
+-- the reply to an insert, with the entity or with its version alone, as the client prefers
+abbrev pub insert_reply : Form → Prefer → List ℕ → VersionView → List ℕ
+insert_reply form Unsaid name version = created_reply form name version None
+insert_reply form Content name version = created_reply form name version (Some (codes "return-content"))
+insert_reply form NoContent name version = bodiless_reply 204 (etag_header version.tick ∷ applied (Some (codes "return-no-content")))
 
 -- the reply to an operation that stands with this tick
-abbrev pub operation_reply : List ℕ → ItemView → Operation → ℕ → List ℕ
-operation_reply account item (Insert entity) tick =
-    insert_reply account item.name (record { pk = item.pk; rk = item.rk; properties = entity.properties; tick = tick })
+abbrev pub operation_reply : Form → ItemView → Operation → ℕ → List ℕ
+operation_reply form item (Insert entity) tick =
+    insert_reply form form.prefer item.name (record { pk = item.pk; rk = item.rk; properties = entity.properties; tick = tick })
 
 -- the reply to a change that stands with this tick
-unfoldable pub change_reply : List ℕ → List ItemView → ℕ → List ℕ
-change_reply account [] tick = []
-change_reply account (item ∷ items) tick = operation_reply account item item.op tick
+unfoldable pub change_reply : Form → List ItemView → ℕ → List ℕ
+change_reply form [] tick = []
+change_reply form (item ∷ items) tick = operation_reply form item item.op tick
 
-abbrev pub reply_to_ask : List ℕ → Ask → Reply → List ℕ
-reply_to_ask account (Page name options) (Listed page) = page_reply account name page.rows
-reply_to_ask account (Page name options) (Changed tick) = []
-reply_to_ask account (Page name options) (Denied why) = denied_reply why
-reply_to_ask account (Change group) (Listed page) = []
-reply_to_ask account (Change group) (Changed tick) = change_reply account group tick
-reply_to_ask account (Change group) (Denied why) = denied_reply why
+-- the bytes of the reply to an ask in this form; no bytes where the reply is none to such an ask
+abbrev pub reply_to_ask : Form → Ask → Reply → List ℕ
+reply_to_ask form (Get name pk rk) (Found row) = row_reply form.account name form.json row
+reply_to_ask form (Get name pk rk) (Listed page) = []
+reply_to_ask form (Get name pk rk) (Changed tick) = []
+reply_to_ask form (Get name pk rk) (Denied why) = denied_reply why
+reply_to_ask form (Page name options) (Found row) = []
+reply_to_ask form (Page name options) (Listed page) = page_reply form.account name form.json page.rows
+reply_to_ask form (Page name options) (Changed tick) = []
+reply_to_ask form (Page name options) (Denied why) = denied_reply why
+reply_to_ask form (Change group) (Found row) = []
+reply_to_ask form (Change group) (Listed page) = []
+reply_to_ask form (Change group) (Changed tick) = change_reply form group tick
+reply_to_ask form (Change group) (Denied why) = denied_reply why
 
 -- the bytes of the reply to a request
 unfoldable pub reply_text : Request → Reply → List ℕ
-reply_text request reply = reply_to_ask request.form.account request.ask reply
+reply_text request reply = reply_to_ask request.form request.ask reply

@@ -1,14 +1,14 @@
 //! Requests and replies as bytes: from a message of a client to what it asks, and from the answer to a reply.
 #![tactic(auto)]
 
-mod bodies;
+mod decisions;
 mod forms;
-mod heads;
+mod preferences;
+mod refusals;
 mod replies;
-mod requests;
-#[cfg(test)]
-mod tests;
+mod targets;
 
-pub use forms::{Form, Request};
+pub use decisions::{Decided, decide, one_message_is_one_decision};
+pub use forms::{Form, Prefer, ReplyBytes, Request};
+pub use refusals::{Refusal, refusal_reply};
 pub use replies::{memory_reply, reply_bytes};
-pub use requests::{one_message_is_one_request, read_request};

@@ -1,16 +1,18 @@
 ghost use Rattle.std.specs.Prelude.{◌≡◌, ◌≤◌, ◌∷◌, ◌++◌, [], length, map, flat_map, codes, decimal, string_bytes, IfOk, OnOk};
+ghost use Rattle.std.specs.Option.{option_copied};
 ghost use Rattle.http.specs.StatusCode.{IsStatusCode};
 ghost use Rattle.tab_edm.specs.Moments.{text_of_etag};
-ghost use Rattle.tab_service.specs.Replies.{Suits, header_line, status_line, head_text, version_header, reply_with_body, fault_reply, denied_reply, page_reply, insert_reply, change_reply, minimal_form, reply_text};
+ghost use Rattle.tab_service.specs.Replies.{Suits, header_line, status_line, head_text, version_header, reply_with_body, fault_reply, refused_reply, denied_reply, json_type, page_reply, row_reply, applied, created_reply, bodiless_reply, insert_reply, change_reply, reply_text};
 
-use crate::Request;
+use crate::{Form, Prefer, Request};
 use http::StatusCode;
 use std::alloc::{AllocError, Global};
 use tab_edm::{GREATEST, etag_text};
-use tab_history::{Ask, Denied, Group, Item, Op, OpRefused, Reply};
-use tab_page::{Page, Select};
-use tab_json::{JsonForm, Version, write_fault, write_page, write_version};
+use tab_history::{Ask, Denied, Group, Op, OpRefused, Reply};
+use tab_json::{Version, write_fault, write_page, write_version};
 use tab_keys::{Memory, TableName};
+use tab_page::Page;
+use tab_rows::Row;
 
 /// The reply to any request for which no memory was found.
 const MEMORY_REPLY: &str =
@@ -18,7 +20,7 @@ const MEMORY_REPLY: &str =
 
 /// The types of bodies.
 const MINIMAL_JSON: &str = "application/json;odata=minimalmetadata;streaming=true;charset=utf-8";
-
+const PLAIN_JSON: &str = "application/json;odata=nometadata;streaming=true;charset=utf-8";
 const JSON: &str = "application/json";
 
 /// The version of the protocol that is spoken.
@@ -30,10 +32,11 @@ pub fn reply_bytes(alloc: Global, request: &Request, reply: &Reply) -> Result<Ve
     requires { Suits request.now reply.now }
     ensures { IfOk result (λ bytes. bytes.items ≡ reply_text request.now reply.now) }
 {
-    let account = request.form.account.as_str();
+    let form = &request.form;
     match (&request.ask, reply) {
-        (Ask::Page { name, .. }, Reply::Listed(page)) => page_reply(alloc, account, name, page),
-        (Ask::Change { group }, Reply::Changed(tick)) => change_reply(alloc, account, group, *tick),
+        (Ask::Get { name, .. }, Reply::Found(row)) => row_reply(alloc, form, name, row),
+        (Ask::Page { name, .. }, Reply::Listed(page)) => page_reply(alloc, form, name, page),
+        (Ask::Change { group }, Reply::Changed(tick)) => change_reply(alloc, form, group, *tick),
         (_, Reply::Denied(why)) => denied_reply(alloc, *why),
         _ => unreachable!(),
     }
@@ -46,49 +49,123 @@ pub fn memory_reply() -> &'static [u8]
     MEMORY_REPLY.as_bytes()
 }
 
+/// A copy of the reply that no memory was found.
+pub(crate) fn memory_bytes(alloc: Global) -> Result<Vec<u8>, Memory>
+    ensures { IfOk result (λ bytes. bytes.items ≡ fault_reply 507 (codes "OutOfMemory") (codes "No memory was found.")) }
+{
+    Vec::from_slice(alloc, memory_reply()).map_err(|_| Memory)
+}
+
 #[tactic(auto, unfolding(crate::specs::Replies::page_reply))]
 fn page_reply(
     alloc: Global,
-    account: &str,
+    form: &Form,
     name: &TableName,
     page: &Page,
 ) -> Result<Vec<u8>, Memory>
-    ensures { IfOk result (λ bytes. bytes.items ≡ page_reply account.now name.now page.now.rows) }
+    ensures { IfOk result (λ bytes. bytes.items ≡ page_reply form.now.account name.now form.now.json page.now.rows) }
 {
-    let body = write_page(alloc, account, name, page, &minimal_form())?;
-    reply_with_body(alloc, 200, MINIMAL_JSON, &[], body.as_str())
+    let body = write_page(alloc, form.account.as_str(), name, page, &form.json)?;
+    let kind = json_type(form.json.minimal);
+    reply_with_body(alloc, 200, kind, &[], body.as_str())
+}
+
+#[tactic(auto, unfolding(crate::specs::Replies::row_reply))]
+fn row_reply(alloc: Global, form: &Form, name: &TableName, row: &Row) -> Result<Vec<u8>, Memory>
+    ensures { IfOk result (λ bytes. bytes.items ≡ row_reply form.now.account name.now form.now.json row.now) }
+{
+    let version = Version::of(row);
+    let body = write_version(alloc, form.account.as_str(), name, &version, &form.json)?;
+    let etag = etag(alloc, &version)?;
+    let kind = json_type(form.json.minimal);
+    reply_with_body(alloc, 200, kind, &[("ETag", etag.as_str())], body.as_str())
 }
 
 #[tactic(auto, unfolding(crate::specs::Replies::change_reply))]
-fn change_reply(alloc: Global, account: &str, group: &Group, tick: u64) -> Result<Vec<u8>, Memory>
+fn change_reply(alloc: Global, form: &Form, group: &Group, tick: u64) -> Result<Vec<u8>, Memory>
     requires one { length group.now ≡ 1 }
     requires in_time { tick ≤ GREATEST }
-    ensures { IfOk result (λ bytes. bytes.items ≡ change_reply account.now group.now tick) }
+    ensures { IfOk result (λ bytes. bytes.items ≡ change_reply form.now group.now tick) }
 {
     let item = &group.items()[0];
     let Op::Insert(entity) = &item.op;
     let version = Version::new(&item.pk, &item.rk, entity, tick);
-    insert_reply(alloc, account, &item.name, &version)
+    insert_reply(alloc, form, &item.name, &version)
 }
 
-#[tactic(auto, unfolding(crate::specs::Replies::insert_reply))]
 fn insert_reply(
     alloc: Global,
-    account: &str,
+    form: &Form,
     name: &TableName,
     version: &Version,
 ) -> Result<Vec<u8>, Memory>
-    ensures { IfOk result (λ bytes. bytes.items ≡ insert_reply account.now name.now version.now) }
+    ensures { IfOk result (λ bytes. bytes.items ≡ insert_reply form.now form.now.prefer name.now version.now) }
 {
-    let body = write_version(alloc, account, name, version, &minimal_form())?;
+    match form.prefer {
+        Prefer::Unsaid => created_reply(alloc, form, name, version, None),
+        Prefer::Content => created_reply(alloc, form, name, version, Some("return-content")),
+        Prefer::NoContent => version_reply(alloc, version),
+    }
+}
+
+/// The reply to an insert with the entity, and with the preference that counted.
+#[tactic(auto, unfolding(crate::specs::Replies::created_reply))]
+fn created_reply(
+    alloc: Global,
+    form: &Form,
+    name: &TableName,
+    version: &Version,
+    preference: Option<&str>,
+) -> Result<Vec<u8>, Memory>
+    ensures { IfOk result (λ bytes. bytes.items ≡ created_reply form.now name.now version.now (option_copied preference.entry)) }
+{
+    let body = write_version(alloc, form.account.as_str(), name, version, &form.json)?;
     let etag = etag(alloc, version)?;
-    reply_with_body(
+    let kind = json_type(form.json.minimal);
+    created_text(alloc, kind, etag.as_str(), preference, body.as_str())
+}
+
+fn created_text<'a>(
+    alloc: Global,
+    kind: &str,
+    etag: &'a str,
+    preference: Option<&'a str>,
+    body: &str,
+) -> Result<Vec<u8>, Memory>
+    ensures { IfOk result (λ bytes. bytes.items
+        ≡ reply_with_body 201 kind.now ((codes "ETag", etag.now) ∷ applied (option_copied preference.entry)) body.now) }
+{
+    match preference {
+        None => reply_with_body(alloc, 201, kind, &[("ETag", etag)], body),
+        Some(text) => {
+            let headers = [("ETag", etag), ("Preference-Applied", text)];
+            reply_with_body(alloc, 201, kind, &headers, body)
+        }
+    }
+}
+
+/// The reply to an insert with its version alone.
+fn version_reply(alloc: Global, version: &Version) -> Result<Vec<u8>, Memory>
+    ensures { IfOk result (λ bytes. bytes.items
+        ≡ bodiless_reply 204 ((codes "ETag", text_of_etag version.now.tick) ∷ (codes "Preference-Applied", codes "return-no-content") ∷ [])) }
+{
+    let etag = etag(alloc, version)?;
+    match version_bytes(alloc, etag.as_str()) {
+        Ok(bytes) => Ok(bytes),
+        Err(_) => Err(Memory),
+    }
+}
+
+fn version_bytes(alloc: Global, etag: &str) -> Result<Vec<u8>, AllocError>
+    ensures { IfOk result (λ bytes. bytes.items
+        ≡ bodiless_reply 204 ((codes "ETag", etag.now) ∷ (codes "Preference-Applied", codes "return-no-content") ∷ [])) }
+{
+    let head = bodiless_text(
         alloc,
-        201,
-        MINIMAL_JSON,
-        &[("ETag", etag.as_str())],
-        body.as_str(),
-    )
+        204,
+        &[("ETag", etag), ("Preference-Applied", "return-no-content")],
+    )?;
+    Ok(head.into_bytes())
 }
 
 fn etag(alloc: Global, version: &Version) -> Result<String, Memory>
@@ -102,31 +179,40 @@ fn denied_reply(alloc: Global, why: Denied) -> Result<Vec<u8>, Memory>
     ensures { IfOk result (λ bytes. bytes.items ≡ denied_reply why) }
 {
     match why {
-        Denied::Op(OpRefused::AlreadyThere { .. }) => fault_reply(
+        Denied::NotFound => fault_reply(
+            alloc,
+            404,
+            "ResourceNotFound",
+            "The entity is not there.",
+        ),
+        Denied::Op(refused) => refused_reply(alloc, refused),
+        Denied::Memory => memory_bytes(alloc),
+    }
+}
+
+fn refused_reply(alloc: Global, refused: OpRefused) -> Result<Vec<u8>, Memory>
+    ensures { IfOk result (λ bytes. bytes.items ≡ refused_reply refused) }
+{
+    match refused {
+        OpRefused::AlreadyThere { .. } => fault_reply(
             alloc,
             409,
             "EntityAlreadyExists",
             "The entity is there already.",
         ),
-        Denied::Op(OpRefused::Memory) | Denied::Memory => Vec::from_slice(
-            alloc,
-            memory_reply(),
-        ).map_err(|_| Memory),
+        OpRefused::Memory => memory_bytes(alloc),
     }
 }
 
-/// All properties, with minimal metadata.
-fn minimal_form() -> JsonForm
-    ensures { result ≡ minimal_form }
+/// The type of a body with minimal metadata, or with none.
+fn json_type(minimal: bool) -> &'static str
+    ensures { result.now ≡ json_type minimal }
 {
-    JsonForm {
-        minimal: true,
-        select: Select::All,
-    }
+    if minimal { MINIMAL_JSON } else { PLAIN_JSON }
 }
 
 #[tactic(auto, unfolding(crate::specs::Replies::fault_reply))]
-fn fault_reply(alloc: Global, status: u16, code: &str, text: &str) -> Result<Vec<u8>, Memory>
+pub(crate) fn fault_reply(alloc: Global, status: u16, code: &str, text: &str) -> Result<Vec<u8>, Memory>
     requires { IsStatusCode status }
     ensures { IfOk result (λ bytes. bytes.items ≡ fault_reply status code.now text.now) }
 {
@@ -182,6 +268,23 @@ fn head_text(
     push_header(&mut head, "Content-Length", length.as_str())?;
     push_header(&mut head, "Content-Type", kind)?;
     push_headers(&mut head, more)?;
+    push_header(&mut head, "x-ms-version", VERSION)?;
+    head.push_str("\r\n")?;
+    Ok(head)
+}
+
+#[tactic(auto, unfolding(crate::specs::Replies::bodiless_reply))]
+fn bodiless_text(
+    alloc: Global,
+    status: u16,
+    headers: &[(&str, &str)],
+) -> Result<String, AllocError>
+    requires { IsStatusCode status }
+    ensures { IfOk result (λ text. string_bytes text
+        ≡ bodiless_reply status (map (λ header. (header.0.now, header.1.now)) headers.now)) }
+{
+    let mut head = status_line(alloc, status)?;
+    push_headers(&mut head, headers)?;
     push_header(&mut head, "x-ms-version", VERSION)?;
     head.push_str("\r\n")?;
     Ok(head)

@@ -1,0 +1,75 @@
+ghost use Rattle.std.specs.Prelude.{◌≡◌, IfOk};
+ghost use Rattle.std.specs.Option.{option_copied};
+ghost use Rattle.tab_http.specs.Headers.{first_value};
+ghost use Rattle.tab_service.specs.Preferences.{has_part, asks_atom, format_in, format_for, preference_for};
+
+use crate::{Prefer, Refusal};
+use std::alloc::Global;
+use tab_http::{Header, first_value};
+use tab_keys::Memory;
+
+/// Whether the reply is to have minimal metadata, by the first Accept header, or why it cannot be as that asks.
+#[tactic(auto, unfolding(crate::specs::Preferences::format_for))]
+pub(crate) fn format_for(
+    alloc: Global,
+    headers: &[Header],
+) -> Result<Result<bool, Refusal>, Memory>
+    ensures { IfOk result (λ format. format ≡ format_for headers.now) }
+{
+    let Some(value) = first_value(headers, "accept") else {
+        return Ok(Ok(true));
+    };
+    match value.to_ascii_lowercase(alloc) {
+        Ok(text) => Ok(format_in(&text)),
+        Err(_) => Err(Memory),
+    }
+}
+
+/// The format that a text in lower case asks for.
+fn format_in(text: &[u8]) -> Result<bool, Refusal>
+    ensures { result ≡ format_in text.now }
+{
+    if has_part(b"odata=nometadata", text) {
+        return Ok(false);
+    }
+    if has_part(b"odata=fullmetadata", text) || asks_atom(text) {
+        return Err(Refusal::Format);
+    }
+    Ok(true)
+}
+
+/// What the first Prefer header says.
+#[tactic(auto, unfolding(crate::specs::Preferences::preference_for))]
+pub(crate) fn preference_for(headers: &[Header]) -> Prefer
+    ensures { result ≡ preference_for headers.now }
+{
+    match first_value(headers, "prefer") {
+        Some(value) if value.eq_ignore_ascii_case(b"return-no-content") => Prefer::NoContent,
+        Some(value) if value.eq_ignore_ascii_case(b"return-content") => Prefer::Content,
+        _ => Prefer::Unsaid,
+    }
+}
+
+/// A media type of Atom, and none of JSON beside it.
+fn asks_atom(text: &[u8]) -> bool
+    ensures { result ≡ asks_atom text.now }
+{
+    has_part(b"application/atom+xml", text) && !has_part(b"application/json", text)
+}
+
+/// Whether the word stands somewhere in the text.
+#[tactic(auto, unfolding(crate::specs::Preferences::has_part))]
+fn has_part(word: &[u8], text: &[u8]) -> bool
+    ensures { result ≡ has_part word.now text.now }
+{
+    let mut rest = text;
+    loop {
+        if rest.starts_with(word) {
+            return true;
+        }
+        let Some((_, later)) = rest.split_first() else {
+            return false;
+        };
+        rest = later;
+    }
+}

@@ -1,0 +1,241 @@
+ghost use Rattle.std.specs.Prelude.{◌≡◌, IfOk, option_map, vec_items};
+ghost use Rattle.std.specs.List.{list_any};
+ghost use Rattle.std.specs.Option.{option_copied};
+ghost use Rattle.tab_service.specs.Targets.{behind, path_behind, ends_segment, one_segment, segment_in, decoded, text_of, quoted, doubled_quote, first_inside, past_quote, value_named, without_spaces, row_key_behind, keys_in, row_at, resource_behind, resource_of, resource_in};
+
+use percent_encoding::{DecodeError, percent_decode};
+use std::alloc::Global;
+use tab_edm::TextValue;
+use tab_keys::Memory;
+
+/// What a target names.
+#[derive(Debug, Drop)]
+pub(crate) enum Resource {
+    /// The rows of the table.
+    Rows,
+    /// The row of these keys.
+    Row(TextValue, TextValue),
+}
+
+/// The resource that a target names, if it is one of this account.
+#[tactic(auto, unfolding(crate::specs::Targets::resource_in))]
+pub(crate) fn resource_in(
+    alloc: Global,
+    account: &str,
+    target: &str,
+) -> Result<Option<Resource>, Memory>
+    ensures { IfOk result (λ found. found ≡ resource_in account.now target.now) }
+{
+    let Some(segment) = segment_in(alloc, account.as_bytes(), target.as_bytes())? else {
+        return Ok(None);
+    };
+    resource_of(alloc, segment.as_str().as_bytes())
+}
+
+/// The one segment behind that of the account, decoded.
+fn segment_in(alloc: Global, account: &[u8], target: &[u8]) -> Result<Option<TextValue>, Memory>
+    ensures { IfOk result (λ found. found ≡ segment_in account.now target.now) }
+{
+    match path_behind(account, target) {
+        Some(segment) => one_segment(alloc, segment),
+        None => Ok(None),
+    }
+}
+
+/// What is behind the account's segment of a path.
+fn path_behind<'t>(account: &[u8], target: &'t [u8]) -> Option<&'t [u8]>
+    ensures { option_copied result ≡ path_behind account.now target.now }
+{
+    let path = behind(b"/", target)?;
+    let rest = behind(account, path)?;
+    behind(b"/", rest)
+}
+
+fn one_segment(alloc: Global, segment: &[u8]) -> Result<Option<TextValue>, Memory>
+    ensures { IfOk result (λ found. found ≡ one_segment segment.now) }
+{
+    if ends_segment(segment) {
+        return Ok(None);
+    }
+    decoded(alloc, segment)
+}
+
+/// Whether one of the bytes cannot stand in a segment.
+fn ends_segment(segment: &[u8]) -> bool
+    ensures { result ≡ list_any ends_segment segment.now }
+{
+    segment.iter().any(|b| *b == b'/' || *b == b'?')
+}
+
+/// The text that a segment decodes to.
+fn decoded(alloc: Global, segment: &[u8]) -> Result<Option<TextValue>, Memory>
+    ensures { IfOk result (λ found. found ≡ decoded segment.now) }
+{
+    match percent_decode(segment).decode_utf8(alloc) {
+        Ok(text) => match text.into_owned(alloc) {
+            Ok(text) => Ok(Some(TextValue::new(text))),
+            Err(_) => Err(Memory),
+        },
+        Err(DecodeError::OutOfMemory) => Err(Memory),
+        Err(DecodeError::Utf8(_)) => Ok(None),
+    }
+}
+
+/// What a segment names.
+#[tactic(auto, unfolding(crate::specs::Targets::resource_of))]
+fn resource_of(alloc: Global, segment: &[u8]) -> Result<Option<Resource>, Memory>
+    ensures { IfOk result (λ found. found ≡ resource_of segment.now) }
+{
+    let Some(rest) = behind(b"Goods", segment) else {
+        return Ok(None);
+    };
+    resource_behind(alloc, rest)
+}
+
+fn resource_behind(alloc: Global, rest: &[u8]) -> Result<Option<Resource>, Memory>
+    ensures { IfOk result (λ found. found ≡ resource_behind rest.now) }
+{
+    if rest.is_empty() || rest == b"()".as_slice() {
+        return Ok(Some(Resource::Rows));
+    }
+    match keys_in(alloc, rest)? {
+        Some((pk, rk)) => Ok(row_at(pk, rk)),
+        None => Ok(None),
+    }
+}
+
+/// The row of two keys, if they are texts.
+fn row_at(pk: Vec<u8>, rk: Vec<u8>) -> Option<Resource>
+    ensures { result ≡ row_at (pk.items, rk.items) }
+{
+    let pk = text_of(pk)?;
+    let rk = text_of(rk)?;
+    Some(Resource::Row(pk, rk))
+}
+
+fn text_of(bytes: Vec<u8>) -> Option<TextValue>
+    ensures { result ≡ text_of bytes.items }
+{
+    match String::from_utf8(bytes) {
+        Ok(text) => Some(TextValue::new(text)),
+        Err(_) => None,
+    }
+}
+
+/// The two keys of an address, behind its name.
+#[tactic(auto, unfolding(crate::specs::Targets::keys_in))]
+fn keys_in(alloc: Global, text: &[u8]) -> Result<Option<(Vec<u8>, Vec<u8>)>, Memory>
+    ensures { IfOk result (λ found. option_map (λ keys. (keys.0.items, keys.1.items)) found ≡ keys_in text.now) }
+{
+    match value_named(alloc, b"(PartitionKey='", text)? {
+        Some((pk, rest)) => row_key_behind(alloc, pk, rest),
+        None => Ok(None),
+    }
+}
+
+fn row_key_behind(
+    alloc: Global,
+    pk: Vec<u8>,
+    rest: &[u8],
+) -> Result<Option<(Vec<u8>, Vec<u8>)>, Memory>
+    ensures { IfOk result (λ found. option_map (λ keys. (keys.0.items, keys.1.items)) found ≡ row_key_behind (pk.items, rest.now)) }
+{
+    let Some(rest) = behind(b",", rest) else {
+        return Ok(None);
+    };
+    match value_named(alloc, b"RowKey='", without_spaces(rest))? {
+        Some((rk, rest)) if rest == b")".as_slice() => Ok(Some((pk, rk))),
+        _ => Ok(None),
+    }
+}
+
+/// The text behind a name with `=` and a quote, and what is behind that text.
+fn value_named<'t>(
+    alloc: Global,
+    name: &[u8],
+    text: &'t [u8],
+) -> Result<Option<(Vec<u8>, &'t [u8])>, Memory>
+    ensures { IfOk result (λ found. option_map (λ value. (value.0.items, value.1.now)) found ≡ value_named name.now text.now) }
+{
+    match behind(name, text) {
+        Some(rest) => quoted(alloc, rest),
+        None => Ok(None),
+    }
+}
+
+/// The text up to the quote that ends it, where each quote in it stands twice, and what is behind.
+fn quoted(alloc: Global, text: &[u8]) -> Result<Option<(Vec<u8>, &[u8])>, Memory>
+    ensures { IfOk result (λ found. option_map (λ value. (value.0.items, value.1.now)) found ≡ quoted text.now) }
+{
+    let mut out = Vec::new(alloc);
+    let mut rest = text;
+    while let Some((byte, later)) = first_inside(rest) {
+        let Ok(()) = out.push(byte) else {
+            return Err(Memory);
+        };
+        rest = later;
+    }
+    match past_quote(rest) {
+        Some(behind) => Ok(Some((out, behind))),
+        None => Ok(None),
+    }
+}
+
+/// The first byte of such a text and what is behind it, if no quote ends it there.
+#[tactic(auto, unfolding(crate::specs::Targets::first_inside))]
+fn first_inside(text: &[u8]) -> Option<(u8, &[u8])>
+    ensures { option_map (λ found. (found.0, found.1.now)) result ≡ first_inside text.now }
+{
+    let (first, later) = text.split_first()?;
+    if *first != b'\'' {
+        return Some((*first, later));
+    }
+    doubled_quote(later)
+}
+
+fn doubled_quote(text: &[u8]) -> Option<(u8, &[u8])>
+    ensures { option_map (λ found. (found.0, found.1.now)) result ≡ doubled_quote text.now }
+{
+    let (first, later) = text.split_first()?;
+    if *first == b'\'' {
+        Some((b'\'', later))
+    } else {
+        None
+    }
+}
+
+/// What is behind a quote.
+#[tactic(auto, unfolding(crate::specs::Targets::past_quote))]
+fn past_quote(text: &[u8]) -> Option<&[u8]>
+    ensures { option_copied result ≡ past_quote text.now }
+{
+    let (first, later) = text.split_first()?;
+    if *first == b'\'' {
+        Some(later)
+    } else {
+        None
+    }
+}
+
+/// The text without the spaces at its front.
+#[tactic(auto, unfolding(crate::specs::Targets::without_spaces))]
+fn without_spaces(text: &[u8]) -> &[u8]
+    ensures { result.now ≡ without_spaces text.now }
+{
+    let mut left = text;
+    while let Some((first, later)) = left.split_first() {
+        if *first != b' ' {
+            return left;
+        }
+        left = later;
+    }
+    left
+}
+
+/// What is behind this front of the text, if it begins so.
+#[tactic(auto, unfolding(crate::specs::Targets::behind))]
+fn behind<'t>(front: &[u8], text: &'t [u8]) -> Option<&'t [u8]>
+    ensures { option_copied result ≡ behind front.now text.now }
+{
+    text.strip_prefix(front)
+}
