@@ -9,6 +9,7 @@ pub mod Outcomes
 pub mod Spellings
 pub mod Told
 pub mod WalkSteps
+mod ServedAsks
 pub mod SessionSteps
 pub mod Turns
 pub mod Schedules

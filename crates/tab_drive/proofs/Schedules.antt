@@ -4,6 +4,10 @@ use Rattle.std.specs.Prelude.{Option, Some, None}
 use Rattle.std.specs.Io.KnownBytes.{Consumes, Appends}
 use Rattle.std.proofs.KnownBytes.{Consumes-trans, Appends-trans}
 use Rattle.std.proofs.lemmas.Grind.{flat_map-append}
+use Rattle.std.specs.Prelude.{IsTrue}
+use Rattle.std.proofs.lemmas.List.Elements.{All-cons, All-nil}
+use Rattle.tab_keys.specs.Order.{bound_lt}
+use Rattle.tab_keys.specs.declared.bounds.Bound.TheVariants.{At, End}
 use Rattle.tab_history.specs.Legality.{State, Legal, after_all}
 use Rattle.tab_history.specs.declared.entries.Entry.{Entry}
 use Rattle.tab_history.proofs.HistoryLaws.{after_all-append, Legal-append}
@@ -182,7 +186,7 @@ going_first account moment l t session keeps history = record {
   exchanges = [];
   follows = tt;
   history = history;
-  legal = subst (λ (h : List Entry). Legal first_state h) (sym history) ((refl, λ i j d h k. absurd (omega arith)), tt);
+  legal = subst (λ (h : List Entry). Legal first_state h) (sym history) ((refl, (λ i j d h k. absurd (omega arith)), All-cons (λ b. IsTrue (bound_lt b End)) (At 0 []) [] refl (All-nil (λ b. IsTrue (bound_lt b End)))), tt);
   keeps = keeps;
   read = nothing_read l;
   written = nothing_written t;

@@ -1,13 +1,16 @@
 -- Why the text of exchanges is a function of what they read and of the entries that they take.
-use Rattle.std.proofs.Common.{◌≡◌, ℕ, List, [], ◌∷◌, ◌++◌, length, refl, sym, ap, ◌∙◌, subst, arith, inl, inr, length-append, append_assoc, Option, Some}
+use Rattle.std.proofs.Common.{◌≡◌, ℕ, List, [], ◌∷◌, ◌++◌, length, refl, sym, ap, ◌∙◌, subst, arith, inl, inr, length-append, append_assoc, Option, Some, None}
 use Rattle.tab_history.specs.declared.entries.Entry.{Entry}
 use Rattle.tab_history.specs.declared.entries.Entry.TheVariants.{Resolve}
 use Rattle.tab_history.specs.declared.exchanges.Reply.{Reply}
 use Rattle.tab_service.specs.declared.forms.Request.{Request}
 use Rattle.tab_service.specs.Replies.{reply_text}
-use Rattle.tab_service.proofs.Laws.{one_message_is_one_request}
+use Rattle.tab_service.specs.Decisions.{IsDecision}
+use Rattle.tab_service.specs.declared.decisions.Decided.{Decided}
+use Rattle.tab_service.specs.declared.decisions.Decided.TheVariants.{Go, No}
+use Rattle.tab_service.proofs.DecisionLaws.{one_message_is_one_decision}
 use Rattle.tab_drive.specs.Schedule.{spelling}
-use Rattle.tab_drive.specs.Walk.{Walk, Exchange, Happens, Answers, Takes, IsMemory, name_of, reply_of, reply_outcome, Follows, walk_after, bytes_of, entries_of, text_of, IsUnserved, IsOutOfForm}
+use Rattle.tab_drive.specs.Walk.{Walk, Exchange, Happens, Answers, Refuses, Takes, IsMemory, name_of, reply_of, reply_outcome, Follows, walk_after, bytes_of, entries_of, text_of, IsUnserved, IsOutOfForm}
 use Rattle.tab_drive.specs.Sessions.{IsOutOfFormEvent}
 use Rattle.tab_drive.specs.declared.schedule.Scheduled.{Scheduled}
 use Rattle.tab_drive.specs.declared.schedule.Scheduled.TheVariants.{Now, Call}
@@ -74,20 +77,57 @@ some_is x y is = cc
 same_texts : (a b : Request) (r s : Reply) → a ≡ b → r ≡ s → reply_outcome (reply_text a r) ≡ reply_outcome (reply_text b s)
 same_texts a b r s p q = cc
 
+same_requests : (a b : Request) → ◌≡◌ {A = Option Decided} (Some (Go a)) (Some (Go b)) → a ≡ b
+same_requests a b e = cc
+
+same_replies : (a b : List ℕ) → ◌≡◌ {A = Option Decided} (Some (No a)) (Some (No b)) → a ≡ b
+same_replies a b e = cc
+
+go_or_no : (a : Request) (b : List ℕ) → ◌≡◌ {A = Option Decided} (Some (Go a)) (Some (No b)) → ⊥
+go_or_no a b e = cc
+
+go_or_none : (a : Request) → ◌≡◌ {A = Option Decided} (Some (Go a)) None → ⊥
+go_or_none a e = cc
+
+no_or_none : (a : List ℕ) → ◌≡◌ {A = Option Decided} (Some (No a)) None → ⊥
+no_or_none a e = cc
+
+-- a message is one request at the most
+one_request : (account message : List ℕ) (a b : Request) → IsDecision account message (Some (Go a)) → IsDecision account message (Some (Go b)) → a ≡ b
+one_request account message a b x y = same_requests a b (one_message_is_one_decision account message (Some (Go a)) (Some (Go b)) x y)
+
 answered : (account message : List ℕ) (walk : Walk) (entries others later more : List Entry) (text other : List ℕ) → Answers account walk message entries text → Answers account walk message others other
     → entries ++ later ≡ others ++ more → AreOne entries others later more text other
 answered account message walk entries others later more text other a b same =
-    let request : a.request ≡ b.request = one_message_is_one_request account message a.request b.request a.reads b.reads in
+    let request : a.request ≡ b.request = one_request account message a.request b.request a.reads b.reads in
     let takes : Takes walk a.request.ask b.answer others = subst (λ (r : Request). Takes walk r.ask b.answer others) (sym request) b.takes in
     let front = one_front walk a.request a.answer b.answer entries others later more a.takes takes same in
     let reply : a.reply ≡ b.reply = some_is a.reply b.reply (sym a.replies ∙ ap reply_of front.1 ∙ b.replies) in
     (front.0, a.written ∙ same_texts a.request b.request a.reply b.reply request reply ∙ sym b.written, front.2)
 
+refused : (account message : List ℕ) (entries others later more : List Entry) (text other : List ℕ) → Refuses account message entries text → Refuses account message others other
+    → entries ++ later ≡ others ++ more → AreOne entries others later more text other
+refused account message entries others later more text other a b same = (
+  a.none ∙ sym b.none,
+  a.written
+      ∙ ap reply_outcome (same_replies a.reply b.reply (one_message_is_one_decision account message (Some (No a.reply)) (Some (No b.reply)) a.reads b.reads))
+      ∙ sym b.written,
+  ap (λ (e : List Entry). e ++ later) (sym a.none) ∙ same ∙ ap (λ (e : List Entry). e ++ more) b.none,
+)
+
+-- no message is both answered and refused
+answered_or_refused : (account message : List ℕ) (walk : Walk) (entries others : List Entry) (text other : List ℕ) → Answers account walk message entries text → Refuses account message others other → ⊥
+answered_or_refused account message walk entries others text other a b =
+    go_or_no a.request b.reply (one_message_is_one_decision account message (Some (Go a.request)) (Some (No b.reply)) a.reads b.reads)
+
 one_outcome : (account : List ℕ) (walk : Walk) (event : Scheduled) (entries others later more : List Entry) (text other : List ℕ) → Happens account walk event entries text
     → Happens account walk event others other → entries ++ later ≡ others ++ more → AreOne entries others later more text other
 one_outcome account walk (Now moment) entries others later more text other a b same =
     (a.0 ∙ sym b.0, a.1 ∙ sym b.1, ap (λ (e : List Entry). e ++ later) (sym a.0) ∙ same ∙ ap (λ (e : List Entry). e ++ more) b.0)
-one_outcome account walk (Call message) entries others later more text other a b same = answered account message walk entries others later more text other a b same
+one_outcome account walk (Call message) entries others later more text other (inl a) (inl b) same = answered account message walk entries others later more text other a b same
+one_outcome account walk (Call message) entries others later more text other (inl a) (inr b) same = absurd (answered_or_refused account message walk entries others text other a b)
+one_outcome account walk (Call message) entries others later more text other (inr a) (inl b) same = absurd (answered_or_refused account message walk others entries other text b a)
+one_outcome account walk (Call message) entries others later more text other (inr a) (inr b) same = refused account message entries others later more text other a b same
 
 -- ---- many
 
@@ -136,10 +176,18 @@ one_text account walk xs ys f g bytes entries =
 -- ---- what is served is not refused
 
 in_form : (account message : List ℕ) (walk : Walk) (entries : List Entry) (text : List ℕ) → Answers account walk message entries text → IsOutOfForm account walk message → ⊥
-in_form account message walk entries text answers (inl none) = none answers.request answers.reads
+in_form account message walk entries text answers (inl none) =
+    go_or_none answers.request (one_message_is_one_decision account message (Some (Go answers.request)) None answers.reads none)
 in_form account message walk entries text answers (inr unserved) =
-    answers.served (subst (λ (r : Request). IsUnserved walk r.ask) (one_message_is_one_request account message unserved.0 answers.request unserved.1 answers.reads) unserved.2)
+    answers.served (subst (λ (r : Request). IsUnserved walk r.ask) (one_request account message unserved.0 answers.request unserved.1 answers.reads) unserved.2)
+
+refused_in_form : (account message : List ℕ) (walk : Walk) (entries : List Entry) (text : List ℕ) → Refuses account message entries text → IsOutOfForm account walk message → ⊥
+refused_in_form account message walk entries text refuses (inl none) =
+    no_or_none refuses.reply (one_message_is_one_decision account message (Some (No refuses.reply)) None refuses.reads none)
+refused_in_form account message walk entries text refuses (inr unserved) =
+    go_or_no unserved.0 refuses.reply (one_message_is_one_decision account message (Some (Go unserved.0)) (Some (No refuses.reply)) unserved.1 refuses.reads)
 
 pub served_in_form : (account : List ℕ) (walk : Walk) (event : Scheduled) (entries : List Entry) (text : List ℕ) → Happens account walk event entries text → IsOutOfFormEvent account walk event → ⊥
 served_in_form account walk (Now moment) entries text happens out = out
-served_in_form account walk (Call message) entries text happens out = in_form account message walk entries text happens out
+served_in_form account walk (Call message) entries text (inl answers) out = in_form account message walk entries text answers out
+served_in_form account walk (Call message) entries text (inr refuses) out = refused_in_form account message walk entries text refuses out

@@ -15,11 +15,11 @@ use Rattle.tab_history.specs.Changes.{group_outcome, group_keys}
 use Rattle.tab_history.specs.Legality.{Legal, after_all}
 use Rattle.tab_history.specs.declared.groups.Op.TheVariants.{Insert}
 use Rattle.tab_history.specs.declared.groups.OpRefused.{OpRefused}
-use Rattle.tab_history.specs.declared.entries.Denied.TheVariants.{Op, Memory}
+use Rattle.tab_history.specs.declared.entries.Denied.TheVariants.{NotFound, Op, Memory}
 use Rattle.tab_history.specs.declared.exchanges.Ask.{Ask}
-use Rattle.tab_history.specs.declared.exchanges.Ask.TheVariants.{Page as Listing, Change as Writing}
+use Rattle.tab_history.specs.declared.exchanges.Ask.TheVariants.{Get as Getting, Page as Listing, Change as Writing}
 use Rattle.tab_history.specs.declared.exchanges.Reply.{Reply}
-use Rattle.tab_history.specs.declared.exchanges.Reply.TheVariants.{Listed, Changed, Denied as Refusal}
+use Rattle.tab_history.specs.declared.exchanges.Reply.TheVariants.{Found, Listed, Changed, Denied as Refusal}
 use Rattle.tab_page.specs.Pages.{page_of}
 use Rattle.tab_history.proofs.ChangeLaws.{insert_stands, insert_refused, may_have_next, next_tick-raised, table_for-first}
 use Rattle.tab_page.proofs.PageLaws.{page_of-whole, filter-passed, key_lt-head}
@@ -151,8 +151,46 @@ adds_refusal walk group refusal serving served collides = record {
   bounds = serving.bounds;
 }
 
+-- a row that is there
+adds_found : (walk : Walk) (name pk rk : List ℕ) (row : RowView) → IsServing walk → IsServedAsk (Getting name pk rk)
+    → row_at walk.past.world.rows (record { table = goods; pk = pk; rk = rk }) ≡ Some row → Adds walk (Getting name pk rk) (Found row) None
+adds_found walk name pk rk row serving served there = record {
+  answers = (refl, refl, refl);
+  replies = refl;
+  legal = (goods_found walk name serving served, ((table_for-first walk.past.tables walk.number (Some goods), sym there), tt));
+  rows = refl;
+  next = refl;
+  floors = serving.floors;
+  names = serving.names;
+  bounds = serving.bounds;
+}
+
+-- a row that is not
+adds_missing : (walk : Walk) (name pk rk : List ℕ) → IsServing walk → IsServedAsk (Getting name pk rk)
+    → row_at walk.past.world.rows (record { table = goods; pk = pk; rk = rk }) ≡ None → Adds walk (Getting name pk rk) (Refusal NotFound) None
+adds_missing walk name pk rk serving served absent = record {
+  answers = (refl, refl, refl);
+  replies = refl;
+  legal = (goods_found walk name serving served, ((table_for-first walk.past.tables walk.number (Some goods), sym absent), tt));
+  rows = refl;
+  next = refl;
+  floors = serving.floors;
+  names = serving.names;
+  bounds = serving.bounds;
+}
+
 -- no memory
 adds_denial : (walk : Walk) (what : Ask) → IsServing walk → IsServedAsk what → Adds walk what (Refusal Memory) None
+adds_denial walk (Getting name pk rk) serving served = record {
+  answers = (refl, refl);
+  replies = refl;
+  legal = (goods_found walk name serving served, (tt, tt));
+  rows = refl;
+  next = refl;
+  floors = serving.floors;
+  names = serving.names;
+  bounds = serving.bounds;
+}
 adds_denial walk (Listing name options) serving served = record {
   answers = (refl, refl);
   replies = refl;
@@ -189,6 +227,19 @@ not_beyond count moment next group within = (by_count (cases_lt count most_rows)
 -- every decided request adds what its reply says
 pub adds : (walk : Walk) (what : Ask) (reply : Reply) (row : Option RowView) → IsServing walk → IsServedAsk what → (IsUnserved walk what → ⊥)
     → IsDecided walk.past.world.rows (max walk.moment walk.next_tick) what reply row → Adds walk what reply row
+adds walk (Getting name pk rk) (Found row) None serving served within decided = adds_found walk name pk rk row serving served decided
+adds walk (Getting name pk rk) (Found found) (Some row) serving served within decided = absurd decided
+adds walk (Getting name pk rk) (Listed page) row serving served within decided = absurd decided
+adds walk (Getting name pk rk) (Changed tick) row serving served within decided = absurd decided
+adds walk (Getting name pk rk) (Refusal NotFound) None serving served within decided = adds_missing walk name pk rk serving served decided
+adds walk (Getting name pk rk) (Refusal NotFound) (Some row) serving served within decided = absurd decided
+adds walk (Getting name pk rk) (Refusal Memory) None serving served within decided = adds_denial walk (Getting name pk rk) serving served
+adds walk (Getting name pk rk) (Refusal Memory) (Some row) serving served within decided = absurd decided
+adds walk (Getting name pk rk) (Refusal (Op refusal)) row serving served within decided = absurd decided
+adds walk (Listing name options) (Found found) row serving served within decided = absurd decided
+adds walk (Listing name options) (Refusal NotFound) row serving served within decided = absurd decided
+adds walk (Writing group) (Found found) row serving served within decided = absurd decided
+adds walk (Writing group) (Refusal NotFound) row serving served within decided = absurd decided
 adds walk (Listing name options) (Listed page) None serving served within decided =
     adds_page walk name options page serving served (listed_rows (rows_from walk.past.world.rows (head_key goods [])) walk.past.world.rows page (rows_from-first walk.past.world.rows serving.in_table) decided)
 adds walk (Listing name options) (Listed page) (Some row) serving served within decided = absurd decided
@@ -220,6 +271,16 @@ rows_then-serve walk (Writing group) (Changed tick) (Some row) serving within de
           (All-with_row (λ r. r.key.table ≡ goods) walk.past.world.rows row (All-from_recursion (λ (r : RowView). r.key.table ≡ goods) walk.past.world.rows serving.in_table) table),
       let longer = length-with_row walk.past.world.rows row absent in omega (arith, longer, room.0),
     )
+rows_then-serve walk (Getting name pk rk) (Found found) (Some row) serving within decided = absurd decided
+rows_then-serve walk (Getting name pk rk) (Listed page) (Some row) serving within decided = absurd decided
+rows_then-serve walk (Getting name pk rk) (Changed tick) (Some row) serving within decided = absurd decided
+rows_then-serve walk (Getting name pk rk) (Refusal NotFound) (Some row) serving within decided = absurd decided
+rows_then-serve walk (Getting name pk rk) (Refusal Memory) (Some row) serving within decided = absurd decided
+rows_then-serve walk (Getting name pk rk) (Refusal (Op refusal)) (Some row) serving within decided = absurd decided
+rows_then-serve walk (Writing group) (Found found) (Some row) serving within decided = absurd decided
+rows_then-serve walk (Writing group) (Refusal NotFound) (Some row) serving within decided = absurd decided
+rows_then-serve walk (Listing name options) (Found found) (Some row) serving within decided = absurd decided
+rows_then-serve walk (Listing name options) (Refusal NotFound) (Some row) serving within decided = absurd decided
 rows_then-serve walk (Writing group) (Listed page) (Some row) serving within decided = absurd decided
 rows_then-serve walk (Writing group) (Refusal Memory) (Some row) serving within decided = absurd decided
 rows_then-serve walk (Writing group) (Refusal (Op refusal)) (Some row) serving within decided = absurd decided

@@ -5,19 +5,20 @@ use Rattle.tab_keys.specs.Order.{head_key}
 use Rattle.tab_keys.specs.declared.bounds.Bound.TheVariants.{At, End}
 use Rattle.tab_edm.specs.Entities.{EntityView}
 use Rattle.tab_rows.specs.Rows.{RowView, row_at, rows_from, with_row}
+use Rattle.tab_page.specs.declared.pages.Options.{Options}
 use Rattle.tab_history.specs.Groups.{ItemView, item_key}
 use Rattle.tab_history.specs.World.{IsNextTick}
 use Rattle.tab_history.specs.Legality.{Legal}
 use Rattle.tab_history.specs.declared.entries.Entry.{Entry}
-use Rattle.tab_history.specs.declared.entries.Entry.TheVariants.{Resolve, Page, Change, Denied}
-use Rattle.tab_history.specs.declared.entries.Denied.TheVariants.{Op, Memory}
+use Rattle.tab_history.specs.declared.entries.Entry.TheVariants.{Resolve, Get, Page, Change, Denied}
+use Rattle.tab_history.specs.declared.entries.Denied.TheVariants.{NotFound, Op, Memory}
 use Rattle.tab_history.specs.declared.groups.Op.TheVariants.{Insert}
 use Rattle.tab_history.specs.declared.groups.OpRefused.{OpRefused}
 use Rattle.tab_history.specs.declared.groups.OpRefused.TheVariants.{AlreadyThere}
 use Rattle.tab_history.specs.declared.exchanges.Ask.{Ask}
-use Rattle.tab_history.specs.declared.exchanges.Ask.TheVariants.{Page as Listing, Change as Writing}
+use Rattle.tab_history.specs.declared.exchanges.Ask.TheVariants.{Get as Getting, Page as Listing, Change as Writing}
 use Rattle.tab_history.specs.declared.exchanges.Reply.{Reply}
-use Rattle.tab_history.specs.declared.exchanges.Reply.TheVariants.{Listed, Changed, Denied as Refusal}
+use Rattle.tab_history.specs.declared.exchanges.Reply.TheVariants.{Found, Listed, Changed, Denied as Refusal}
 use Rattle.tab_service.specs.declared.forms.Request.{Request}
 use Rattle.tab_service.specs.Replies.{reply_text}
 use Rattle.tab_drive.specs.Walk.{Walk, first_world, most_rows, name_of, Happens, reply_outcome, walk_after, IsOutOfForm}
@@ -45,8 +46,9 @@ pub record Keeps (session : Session) (walk : Walk) : Type 0 where
   pub rows : session.rows.rows ≡ walk.past.world.rows
   pub serving : IsServing walk
 
--- the requests that are served: a query of all rows, and a group of one item, both of the one table
+-- the requests that are served: a point read, a query of all rows, and a group of one item, all of the one table
 abbrev pub IsServedAsk : Ask → Type 0
+IsServedAsk (Getting name pk rk) = name ≡ codes "Goods"
 IsServedAsk (Listing name options) = (name ≡ codes "Goods") × (options.top ≡ most_rows) × (options.start ≡ None)
 IsServedAsk (Writing group) = (item : ItemView) × (group ≡ item ∷ []) × (item.name ≡ codes "Goods")
 
@@ -71,18 +73,49 @@ pub record Collides (rows : List RowView) (group : List ItemView) (refusal : OpR
 
 -- what a request comes to over these rows: its reply, and the row that it writes
 abbrev pub IsDecided : List RowView → ℕ → Ask → Reply → Option RowView → Type 0
+IsDecided rows tick (Getting name pk rk) (Found row) None = row_at rows (record { table = goods; pk = pk; rk = rk }) ≡ Some row
+IsDecided rows tick (Getting name pk rk) (Refusal NotFound) None = row_at rows (record { table = goods; pk = pk; rk = rk }) ≡ None
 IsDecided rows tick (Listing name options) (Listed page) None = page ≡ record { rows = rows_from rows (head_key goods []); next = None; end = End }
 IsDecided rows tick (Writing group) (Changed given) (Some row) = (given ≡ tick) × Writes rows tick group row
 IsDecided rows tick (Writing group) (Refusal (Op refusal)) None = Collides rows group refusal
 IsDecided rows tick what (Refusal Memory) None = ⊤
 IsDecided rows tick what reply row = ⊥
 
+-- the reply to a point read
+abbrev pub found_or_not : Option RowView → Reply
+found_or_not (Some row) = Found row
+found_or_not None = Refusal NotFound
+
+-- the entry of a point read's answer
+abbrev pub get_entry : ℕ → List ℕ → List ℕ → Reply → Entry
+get_entry number pk rk (Found row) = Get number goods pk rk (Some row)
+get_entry number pk rk (Refusal NotFound) = Get number goods pk rk None
+get_entry number pk rk (Refusal Memory) = Denied number Memory
+get_entry number pk rk (Refusal (Op refusal)) = Denied number Memory
+get_entry number pk rk (Listed page) = Denied number Memory
+get_entry number pk rk (Changed tick) = Denied number Memory
+
+-- the entry of a query's answer
+abbrev pub page_entry : ℕ → Options → Reply → Entry
+page_entry number options (Listed page) = Page number goods options page
+page_entry number options (Found row) = Denied number Memory
+page_entry number options (Changed tick) = Denied number Memory
+page_entry number options (Refusal why) = Denied number Memory
+
+-- the entry of a change's answer
+abbrev pub change_entry : ℕ → ℕ → List ItemView → Reply → Entry
+change_entry number moment group (Changed tick) = Change number moment goods group (Ok tick)
+change_entry number moment group (Refusal (Op refusal)) = Change number moment goods group (Err refusal)
+change_entry number moment group (Refusal NotFound) = Denied number Memory
+change_entry number moment group (Refusal Memory) = Denied number Memory
+change_entry number moment group (Found row) = Denied number Memory
+change_entry number moment group (Listed page) = Denied number Memory
+
 -- the entry of a request's answer
 abbrev pub entry_of : ℕ → ℕ → Ask → Reply → Entry
-entry_of number moment (Listing name options) (Listed page) = Page number goods options page
-entry_of number moment (Writing group) (Changed tick) = Change number moment goods group (Ok tick)
-entry_of number moment (Writing group) (Refusal (Op refusal)) = Change number moment goods group (Err refusal)
-entry_of number moment what reply = Denied number Memory
+entry_of number moment (Getting name pk rk) reply = get_entry number pk rk reply
+entry_of number moment (Listing name options) reply = page_entry number options reply
+entry_of number moment (Writing group) reply = change_entry number moment group reply
 
 -- the entries of a request
 abbrev pub entries_for : ℕ → ℕ → Ask → Reply → List Entry
@@ -114,6 +147,14 @@ pub record Replied (old new : Session) (request : Request) (text : List ℕ) : T
   pub history : new.history.items ≡ old.history.items ++ entries_for old.number old.moment request.ask reply
   pub rows : new.rows.rows ≡ rows_then old.rows.rows row
   pub next : new.next_tick ≡ next_then old.next_tick row
+  pub number : new.number ≡ old.number + 1
+  pub moment : new.moment ≡ old.moment
+
+-- a request was refused, and nothing changed but the number of the next event
+pub record RefusedAt (old new : Session) : Type 0 where
+  pub history : new.history.items ≡ old.history.items
+  pub rows : new.rows.rows ≡ old.rows.rows
+  pub next : new.next_tick ≡ old.next_tick
   pub number : new.number ≡ old.number + 1
   pub moment : new.moment ≡ old.moment
 

@@ -7,17 +7,18 @@ use Rattle.tab_history.specs.Groups.{ItemView}
 use Rattle.tab_history.specs.World.{World}
 use Rattle.tab_history.specs.Legality.{State, accepted, after_all}
 use Rattle.tab_history.specs.declared.entries.Entry.{Entry}
-use Rattle.tab_history.specs.declared.entries.Entry.TheVariants.{Bounds, Resolve, Page, Change, Denied}
-use Rattle.tab_history.specs.declared.entries.Denied.TheVariants.{Op, Memory}
+use Rattle.tab_history.specs.declared.entries.Entry.TheVariants.{Bounds, Resolve, Get, Page, Change, Denied}
+use Rattle.tab_history.specs.declared.entries.Denied.TheVariants.{NotFound, Op, Memory}
 use Rattle.tab_history.specs.declared.entries.Doubt.{Doubt}
 use Rattle.tab_history.specs.declared.entries.Doubt.TheVariants.{Change as Changing}
 use Rattle.tab_history.specs.declared.groups.OpRefused.{OpRefused}
 use Rattle.tab_history.specs.declared.exchanges.Ask.{Ask}
-use Rattle.tab_history.specs.declared.exchanges.Ask.TheVariants.{Page as Listing, Change as Writing}
+use Rattle.tab_history.specs.declared.exchanges.Ask.TheVariants.{Get as Getting, Page as Listing, Change as Writing}
 use Rattle.tab_history.specs.declared.exchanges.Reply.{Reply}
-use Rattle.tab_history.specs.declared.exchanges.Reply.TheVariants.{Listed, Changed, Denied as Refusal}
+use Rattle.tab_history.specs.declared.exchanges.Reply.TheVariants.{Found, Listed, Changed, Denied as Refusal}
 use Rattle.tab_service.specs.declared.forms.Request.{Request}
-use Rattle.tab_service.specs.Requests.{IsRequest}
+use Rattle.tab_service.specs.declared.decisions.Decided.TheVariants.{Go, No}
+use Rattle.tab_service.specs.Decisions.{IsDecision}
 use Rattle.tab_service.specs.Replies.{reply_text}
 use Rattle.tab_drive.specs.Schedule.{line_feed, spelling, Fits, IsNoEvent, end_line}
 use Rattle.tab_drive.specs.declared.schedule.Scheduled.{Scheduled}
@@ -87,6 +88,7 @@ group_name (item ∷ items) = item.name
 
 -- the table that a request asks about
 abbrev pub name_of : Ask → List ℕ
+name_of (Getting name pk rk) = name
 name_of (Listing name options) = name
 name_of (Writing group) = group_name group
 
@@ -97,6 +99,7 @@ HasTick walk (Err refusal) = ⊤
 
 -- the entry answers the request, which has the walk's number
 abbrev pub IsAnswer : Walk → Ask → Entry → Type 0
+IsAnswer walk (Getting name pk rk) (Get ask table p r found) = (ask ≡ walk.number) × (p ≡ pk) × (r ≡ rk)
 IsAnswer walk (Listing name options) (Page ask table asked page) = (ask ≡ walk.number) × (asked ≡ options)
 IsAnswer walk (Writing group) (Change ask now table acted result) =
     (ask ≡ walk.number) × (now ≡ walk.moment) × (acted ≡ group) × HasTick walk result
@@ -105,6 +108,8 @@ IsAnswer walk what entry = ⊥
 
 -- the reply that an entry stands for
 abbrev pub reply_of : Entry → Option Reply
+reply_of (Get ask table pk rk (Some row)) = Some (Found row)
+reply_of (Get ask table pk rk None) = Some (Refusal NotFound)
 reply_of (Page ask table options page) = Some (Listed page)
 reply_of (Change ask now table group (Ok tick)) = Some (Changed tick)
 reply_of (Change ask now table group (Err refusal)) = Some (Refusal (Op refusal))
@@ -137,6 +142,7 @@ most_rows = 1000
 
 -- a change that is not served yet, over so many rows at this moment: the table is full, or the last moment was reached
 abbrev pub IsBeyond : ℕ → ℕ → ℕ → Ask → Type 0
+IsBeyond count moment next_tick (Getting name pk rk) = ⊥
 IsBeyond count moment next_tick (Listing name options) = ⊥
 IsBeyond count moment next_tick (Writing group) = (most_rows ≤ count) ⊎ (GREATEST < max moment next_tick)
 
@@ -146,7 +152,7 @@ IsUnserved walk what = IsBeyond (length walk.past.world.rows) walk.moment walk.n
 -- a message is read, answered and replied to
 pub record Answers (account : List ℕ) (walk : Walk) (message : List ℕ) (entries : List Entry) (text : List ℕ) : Type 0 where
   pub request : Request
-  pub reads : IsRequest account message request
+  pub reads : IsDecision account message (Some (Go request))
   pub served : IsUnserved walk request.ask → ⊥
   pub answer : Entry
   pub answers : IsAnswer walk request.ask answer
@@ -155,10 +161,17 @@ pub record Answers (account : List ℕ) (walk : Walk) (message : List ℕ) (entr
   pub replies : reply_of answer ≡ Some reply
   pub written : text ≡ reply_outcome (reply_text request reply)
 
+-- a message is refused before the store is asked, and takes no entry
+pub record Refuses (account message : List ℕ) (entries : List Entry) (text : List ℕ) : Type 0 where
+  pub reply : List ℕ
+  pub reads : IsDecision account message (Some (No reply))
+  pub none : entries ≡ []
+  pub written : text ≡ reply_outcome reply
+
 -- what may happen at an event: the entries that it takes and the text that it gives
 abbrev pub Happens : List ℕ → Walk → Scheduled → List Entry → List ℕ → Type 0
 Happens account walk (Now moment) entries text = (entries ≡ []) × (text ≡ done_outcome)
-Happens account walk (Call message) entries text = Answers account walk message entries text
+Happens account walk (Call message) entries text = Answers account walk message entries text ⊎ Refuses account message entries text
 
 -- the last number of 64 bits, which no event gets
 abbrev pub last_number : ℕ
@@ -187,11 +200,11 @@ entries_of exchanges = flat_map (λ exchange. exchange.entries) exchanges
 abbrev pub text_of : List Exchange → List ℕ
 text_of exchanges = flat_map (λ exchange. exchange.text) exchanges
 
--- a message that is no request, or one that asks what is not served yet
+-- a message that comes to nothing, or one that asks what is not served yet
 abbrev pub IsOutOfForm : List ℕ → Walk → List ℕ → Type 0
 IsOutOfForm account walk message =
-    ((request : Request) → IsRequest account message request → ⊥)
-    ⊎ ((request : Request) × IsRequest account message request × IsUnserved walk request.ask)
+    IsDecision account message None
+    ⊎ ((request : Request) × IsDecision account message (Some (Go request)) × IsUnserved walk request.ask)
 
 -- the walk goes on with no event of these bytes: none is spelled there, or its message is out of form, or numbers
 -- have run out

@@ -5,37 +5,8 @@ ghost use Rattle.tab_drive.specs.Walk.{reply_outcome};
 
 use itoa::Buffer;
 use std::alloc::Global;
-use std::marker::Model;
 use tab_outside::{Failed, Sink, write_all};
-use tab_service::memory_reply;
-
-/// The bytes of a reply.
-#[derive(Debug, Drop)]
-pub struct ReplyBytes {
-    bytes: Vec<u8>,
-}
-
-impl Model for ReplyBytes {
-    ghost use Rattle.std.specs.Prelude.{List, ℕ, vec_items};
-
-    ghost Value = { List ℕ };
-
-    ghost view = { λ reply. reply.bytes.items };
-}
-
-impl ReplyBytes {
-    pub fn new(bytes: Vec<u8>) -> ReplyBytes
-        ensures { result ≡ bytes.items }
-    {
-        ReplyBytes { bytes }
-    }
-
-    pub fn as_slice(&self) -> &[u8]
-        ensures { result.now ≡ self.now }
-    {
-        self.bytes.as_slice()
-    }
-}
+use tab_service::{ReplyBytes, memory_reply};
 
 /// What an event gives to be written.
 #[derive(Debug, Drop)]

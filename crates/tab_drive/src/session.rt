@@ -1,23 +1,23 @@
 ghost use Rattle.std.specs.Prelude.{◌≡◌, ◌+◌, ◌-◌, ◌^◌, ◌<◌, ◌≤◌, ◌↔◌, max, List, [], ◌∷◌, ◌++◌, IfOk, OnOk, OnErr, IsErrOf, IsTrue, IsSome, OnSome, Some, None, vec_len, vec_capacity, length};
-ghost use Rattle.tab_rows.specs.Rows.{RowView, rows_from};
+ghost use Rattle.tab_rows.specs.Rows.{RowView, row_at, rows_from};
 ghost use Rattle.tab_keys.specs.Order.{head_key};
 ghost use Rattle.tab_history.specs.declared.entries.Entry.{Entry};
 ghost use Rattle.tab_drive.specs.Walk.{Walk, first_walk, opening, IsBeyond, IsOutOfForm, name_of, reply_outcome};
 ghost use Rattle.tab_service.specs.Replies.{Suits, reply_text};
 ghost use Rattle.tab_edm.specs.declared.TheConstants.{GREATEST};
 ghost use Rattle.tab_drive.specs.Outgoing.{outgoing_text};
-ghost use Rattle.tab_drive.specs.Sessions.{goods, Keeps, Stepped, Replied, IsOutOfFormEvent, IsServedAsk, IsDecided, entry_of, entries_for, rows_then, next_then};
+ghost use Rattle.tab_drive.specs.Sessions.{goods, Keeps, Stepped, Replied, IsOutOfFormEvent, IsServedAsk, IsDecided, RefusedAt, found_or_not, get_entry, page_entry, change_entry, entry_of, entries_for, rows_then, next_then};
 
 use crate::copies::copied_rows;
-use crate::outgoing::{Outgoing, ReplyBytes};
+use crate::outgoing::Outgoing;
 use crate::schedule::{RawMessage, Scheduled};
 use std::alloc::Global;
 use tab_edm::{Entity, GREATEST};
 use tab_history::{Ask, Bounds, Denied, Entry, Group, Op, OpRefused, Reply};
 use tab_keys::{Bound, Key, KeyText, Memory, TableName};
-use tab_page::{Page, PageRows};
+use tab_page::{Options, Page, PageRows};
 use tab_rows::{Row, Rows};
-use tab_service::{Request, read_request, reply_bytes};
+use tab_service::{Decided as Decision, ReplyBytes, Request, decide, reply_bytes};
 
 /// The number of the one table.
 const GOODS: u64 = 1;
@@ -101,11 +101,33 @@ impl Session {
         ensures refused { (walk : Walk) → Keeps self.old walk → IsErrOf result StepRefused.OutOfForm → IsOutOfForm account.now walk message.now }
         ensures err { OnErr result (self.new.history.items ≡ self.old.history.items) }
     {
-        let request = match read_request(alloc, account, message.as_slice()) {
-            Ok(Some(request)) => request,
-            Ok(None) => return Err(StepRefused::OutOfForm),
-            Err(_) => return Err(StepRefused::Memory),
-        };
+        match decide(alloc, account, message.as_slice()) {
+            Ok(Some(Decision::Go(request))) => self.serve(alloc, request),
+            Ok(Some(Decision::No(reply))) => Ok(self.refuse(reply)),
+            Ok(None) => Err(StepRefused::OutOfForm),
+            Err(_) => Err(StepRefused::Memory),
+        }
+    }
+
+    /// Gives the reply to a request that is refused before the store is asked.
+    fn refuse(&mut self, reply: ReplyBytes) -> Outgoing
+        requires { self.old.number < 2 ^ 64 - 1 }
+        ensures text { outgoing_text result ≡ reply_outcome reply }
+        ensures kept { RefusedAt self.old self.new }
+    {
+        self.number += 1;
+        Outgoing::Reply(reply)
+    }
+
+    /// Answers a request, if it is served yet.
+    fn serve(&mut self, alloc: Global, request: Request) -> Result<Outgoing, StepRefused>
+        requires number { self.old.number < 2 ^ 64 - 1 }
+        requires served { IsServedAsk request.ask }
+        ensures ok { IfOk result (λ outgoing. Replied self.old self.new request (outgoing_text outgoing)) }
+        ensures within { OnOk result (IsBeyond (length self.old.rows.rows) self.old.moment self.old.next_tick request.ask → ⊥) }
+        ensures refused { IsErrOf result StepRefused.OutOfForm → IsBeyond (length self.old.rows.rows) self.old.moment self.old.next_tick request.ask }
+        ensures err { OnErr result (self.new.history.items ≡ self.old.history.items) }
+    {
         if self.is_beyond(&request.ask) {
             return Err(StepRefused::OutOfForm);
         }
@@ -120,6 +142,7 @@ impl Session {
         ensures { IsTrue result ↔ IsBeyond (length self.now.rows.rows) self.now.moment self.now.next_tick ask.now }
     {
         match ask {
+            Ask::Get { .. } => false,
             Ask::Page { .. } => false,
             Ask::Change { .. } => {
                 self.rows.len() >= MOST_ROWS || self.moment.max(self.next_tick) > GREATEST
@@ -173,9 +196,27 @@ impl Session {
         ensures same { self.new ≡ record self.old { rows = self.new.rows } }
     {
         match ask {
+            Ask::Get { pk, rk, .. } => self.decide_get(alloc, pk, rk),
             Ask::Page { .. } => self.decide_page(alloc),
             Ask::Change { group } => self.decide_change(alloc, group),
         }
+    }
+
+    /// The row at a key, if one is there.
+    fn decide_get(&self, alloc: Global, pk: &KeyText, rk: &KeyText) -> Result<Decided, Memory>
+        ensures row { IfOk result (λ decided. decided.row ≡ None) }
+        ensures reply { IfOk result (λ decided. decided.reply ≡ found_or_not (row_at self.now.rows.rows (record { table = goods; pk = pk.now; rk = rk.now }))) }
+    {
+        let key = Key {
+            table: GOODS,
+            pk: pk.try_copy(alloc)?,
+            rk: rk.try_copy(alloc)?,
+        };
+        let reply = match self.rows.get(&key) {
+            Some(row) => Reply::Found(row.try_copy(alloc)?),
+            None => Reply::Denied(Denied::NotFound),
+        };
+        Ok(Decided { reply, row: None })
     }
 
     /// The page of all rows.
@@ -289,6 +330,7 @@ fn name_of(ask: &Ask) -> &TableName
     ensures { result.now ≡ name_of ask.now }
 {
     match ask {
+        Ask::Get { name, .. } => name,
         Ask::Page { name, .. } => name,
         Ask::Change { group } => {
             let item = &group.items()[0];
@@ -301,31 +343,76 @@ fn name_of(ask: &Ask) -> &TableName
 fn entry_for(number: u64, moment: u64, ask: Ask, reply: Reply) -> Entry
     ensures { result ≡ entry_of number moment ask reply }
 {
-    match (ask, reply) {
-        (Ask::Page { options, .. }, Reply::Listed(page)) => Entry::Page {
+    match ask {
+        Ask::Get { pk, rk, .. } => get_entry(number, pk, rk, reply),
+        Ask::Page { options, .. } => page_entry(number, options, reply),
+        Ask::Change { group } => change_entry(number, moment, group, reply),
+    }
+}
+
+/// The entry of a point read's answer.
+fn get_entry(number: u64, pk: KeyText, rk: KeyText, reply: Reply) -> Entry
+    ensures { result ≡ get_entry number pk rk reply }
+{
+    match reply {
+        Reply::Found(row) => Entry::Get {
+            ask: number,
+            table: GOODS,
+            pk,
+            rk,
+            found: Some(row),
+        },
+        Reply::Denied(Denied::NotFound) => Entry::Get {
+            ask: number,
+            table: GOODS,
+            pk,
+            rk,
+            found: None,
+        },
+        _ => denied_entry(number),
+    }
+}
+
+/// The entry of a query's answer.
+fn page_entry(number: u64, options: Options, reply: Reply) -> Entry
+    ensures { result ≡ page_entry number options reply }
+{
+    match reply {
+        Reply::Listed(page) => Entry::Page {
             ask: number,
             table: GOODS,
             options,
             page,
         },
-        (Ask::Change { group }, Reply::Changed(tick)) => Entry::Change {
-            ask: number,
-            now: moment,
-            table: GOODS,
-            group,
-            result: Ok(tick),
-        },
-        (Ask::Change { group }, Reply::Denied(Denied::Op(refusal))) => Entry::Change {
-            ask: number,
-            now: moment,
-            table: GOODS,
-            group,
-            result: Err(refusal),
-        },
-        _ => Entry::Denied {
-            ask: number,
-            why: Denied::Memory,
-        },
+        _ => denied_entry(number),
+    }
+}
+
+/// The entry of a change's answer.
+fn change_entry(number: u64, moment: u64, group: Group, reply: Reply) -> Entry
+    ensures { result ≡ change_entry number moment group reply }
+{
+    let result = match reply {
+        Reply::Changed(tick) => Ok(tick),
+        Reply::Denied(Denied::Op(refusal)) => Err(refusal),
+        _ => return denied_entry(number),
+    };
+    Entry::Change {
+        ask: number,
+        now: moment,
+        table: GOODS,
+        group,
+        result,
+    }
+}
+
+/// The entry of a request for which no memory was found.
+fn denied_entry(number: u64) -> Entry
+    ensures { result ≡ Entry.Denied number Denied.Memory }
+{
+    Entry::Denied {
+        ask: number,
+        why: Denied::Memory,
     }
 }
 

@@ -12,3 +12,4 @@ pub use decisions::{Decided, decide, one_message_is_one_decision};
 pub use forms::{Form, Prefer, ReplyBytes, Request};
 pub use refusals::{Refusal, refusal_reply};
 pub use replies::{memory_reply, reply_bytes};
+pub use targets::Resource;

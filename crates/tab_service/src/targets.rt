@@ -10,7 +10,7 @@ use tab_keys::Memory;
 
 /// What a target names.
 #[derive(Debug, Drop)]
-pub(crate) enum Resource {
+pub enum Resource {
     /// The rows of the table.
     Rows,
     /// The row of these keys.

@@ -1,0 +1,105 @@
+-- What a decided request asks is served.
+use Rattle.std.proofs.Common.{◌≡◌, ℕ, ◌⊎◌, List, [], ◌∷◌, length, Bool, true, false, Option, Some, None, Result, Ok, Err, cond, refl, sym, ap, ◌∙◌, subst, inl, inr, nat_eq}
+use Rattle.std.specs.Prelude.{option_and_then, codes}
+use Rattle.httparse.specs.Grammar.{RequestHead}
+use Rattle.tab_keys.specs.KeyTexts.{units_of}
+use Rattle.tab_edm.specs.Entities.{EntityView, made}
+use Rattle.tab_edm.specs.declared.entities.EdmRefused.{EdmRefused}
+use Rattle.tab_http.specs.declared.messages.Header.{Header}
+use Rattle.tab_json.specs.declared.bodies.BodyEntity.{BodyEntity}
+use Rattle.tab_service.specs.Targets.{resource_in}
+use Rattle.tab_service.specs.Preferences.{format_for, preference_for}
+use Rattle.tab_service.specs.Refusals.{refusal_text}
+use Rattle.tab_service.specs.Decisions.{unless_refused, page_request, row_request, insert_request, path_key, read_body, given_key, entity_unless, insert_from, decided_page, decided_row, decided_insert, answered, is_plain_read, is_plain_insert, decided_on, decided_by, decision, IsDecision}
+use Rattle.tab_service.specs.declared.decisions.Decided.{Decided}
+use Rattle.tab_service.specs.declared.decisions.Decided.TheVariants.{Go, No}
+use Rattle.tab_service.specs.declared.forms.Prefer.{Prefer}
+use Rattle.tab_service.specs.declared.forms.Request.{Request}
+use Rattle.tab_service.specs.declared.refusals.Refusal.{Refusal}
+use Rattle.tab_service.specs.declared.targets.Resource.{Resource}
+use Rattle.tab_service.specs.declared.targets.Resource.TheVariants.{Rows, Row}
+use Rattle.tab_drive.specs.Sessions.{IsServedAsk}
+
+-- a request, if it is one, asks what is served
+abbrev Served : Result Request Refusal → Type 0
+Served decided = (request : Request) → decided ≡ Ok request → IsServedAsk request.ask
+
+abbrev AllServed : Option Decided → Type 0
+AllServed found = (request : Request) → found ≡ Some (Go request) → IsServedAsk request.ask
+
+same_ok : (a b : Request) → ◌≡◌ {A = Result Request Refusal} (Ok a) (Ok b) → a ≡ b
+same_ok a b e = cc
+
+same_go : (a b : Request) → ◌≡◌ {A = Option Decided} (Some (Go a)) (Some (Go b)) → a ≡ b
+same_go a b e = cc
+
+err_or_ok : (why : Refusal) (a : Request) → ◌≡◌ {A = Result Request Refusal} (Err why) (Ok a) → ⊥
+err_or_ok why a e = cc
+
+no_or_go : (a : List ℕ) (b : Request) → ◌≡◌ {A = Option Decided} (Some (No a)) (Some (Go b)) → ⊥
+no_or_go a b e = cc
+
+none_or_go : (b : Request) → ◌≡◌ {A = Option Decided} None (Some (Go b)) → ⊥
+none_or_go b e = cc
+
+served_ok : (request : Request) → IsServedAsk request.ask → Served (Ok request)
+served_ok request served other e = subst (λ (r : Request). IsServedAsk r.ask) (same_ok request other e) served
+
+served_unless : {A : Type 0} (found : Result A Refusal) (next : A → Result Request Refusal) → ((x : A) → Served (next x)) → Served (unless_refused found next)
+served_unless (Ok x) next all = all x
+served_unless (Err why) next all = λ request e. absurd (err_or_ok why request e)
+
+page_served : (account : List ℕ) (headers : List Header) → Served (decided_page account headers)
+unfolding decided_page
+page_served account headers = served_unless (format_for headers) _ (λ minimal. served_ok (page_request account minimal) (refl, refl, refl))
+
+row_served : (account : List ℕ) (headers : List Header) (pk rk : List ℕ) → Served (decided_row account headers pk rk)
+unfolding decided_row
+row_served account headers pk rk =
+    served_unless (path_key pk) _ (λ p. served_unless (path_key rk) _ (λ r. served_unless (format_for headers) _ (λ minimal. served_ok (row_request account minimal p r) refl)))
+
+insert_served : (account : List ℕ) (minimal : Bool) (prefer : Prefer) (body : BodyEntity) → Served (insert_from account minimal prefer body)
+insert_served account minimal prefer body =
+    served_unless (given_key body.pk) _
+    (λ pk. served_unless (given_key body.rk) _
+    (λ rk. served_unless (entity_unless (made (length (units_of pk)) (length (units_of rk)) body.properties)) _
+    (λ entity. served_ok (insert_request account minimal prefer pk rk entity) (_, refl, refl))))
+
+body_served : (account : List ℕ) (headers : List Header) (body : List ℕ) → Served (decided_insert account headers body)
+unfolding decided_insert
+body_served account headers body =
+    served_unless (format_for headers) _ (λ minimal. served_unless (read_body body) _ (λ entity. insert_served account minimal (preference_for headers) entity))
+
+none_served : AllServed None
+none_served request e = absurd (none_or_go request e)
+
+answered_served : (decided : Result Request Refusal) → Served decided → AllServed (answered decided)
+answered_served (Ok given) served = λ request e. served request (ap (λ (r : Request). Ok r) (same_go given request e))
+answered_served (Err why) served = λ request e. absurd (no_or_go (refusal_text why) request e)
+
+either_served : (test : Bool) (a b : Option Decided) → AllServed a → AllServed b → AllServed (cond test a b)
+either_served true a b x y = x
+either_served false a b x y = y
+
+on_served : (account method : List ℕ) (headers : List Header) (body : List ℕ) (resource : Resource) → AllServed (decided_on account method headers body resource)
+on_served account method headers body Rows =
+    either_served _ _ _
+    (either_served (is_plain_read headers body) _ None (answered_served _ (page_served account headers)) none_served)
+    (either_served _ _ None (either_served (is_plain_insert headers body) _ None (answered_served _ (body_served account headers body)) none_served) none_served)
+on_served account method headers body (Row pk rk) =
+    either_served _ _ None (either_served (is_plain_read headers body) _ None (answered_served _ (row_served account headers pk rk)) none_served) none_served
+
+then_served : (found : Option Resource) (next : Resource → Option Decided) → ((resource : Resource) → AllServed (next resource)) → AllServed (option_and_then next found)
+then_served None next all = none_served
+then_served (Some resource) next all = all resource
+
+decision_served : (account : List ℕ) (head : RequestHead) (body : List ℕ) → AllServed (decision account head body)
+unfolding decision
+decision_served account head body =
+    either_served _ _ None (then_served (resource_in account head.target) _ (on_served account head.method _ body)) none_served
+
+-- what a message may ask is served
+pub served_ask : (account message : List ℕ) (request : Request) → IsDecision account message (Some (Go request)) → IsServedAsk request.ask
+unfolding IsDecision
+served_ask account message request (inl found) = decision_served account found.head found.body request (sym found.found_is)
+served_ask account message request (inr none) = none_served request (sym none.1)
