@@ -1,5 +1,5 @@
 -- The place of a key in a list of rows.
-use Rattle.std.specs.Prelude.{◌≡◌, ℕ, suc, ◌<◌, ◌≤◌, List, length, All, IsTrue, take, drop, slice_get, Some}
+use Rattle.std.specs.Prelude.{◌≡◌, ℕ, suc, ◌≤◌, List, length, All, IsTrue, take, drop, slice_get, Some}
 use Rattle.tab_keys.specs.Order.{key_lt, same_key}
 use Rattle.tab_keys.specs.declared.keys.Key.{Key}
 use Rattle.tab_rows.specs.Rows.{RowView}

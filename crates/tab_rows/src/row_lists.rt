@@ -1,4 +1,4 @@
-ghost use Rattle.std.specs.Prelude.{◌≡◌, ◌<◌, ◌≤◌, ◌+◌, [], length, OnOk, MatchResult, None, drop, not};
+ghost use Rattle.std.specs.Prelude.{◌≡◌, ℕ, ◌<◌, ◌≤◌, ◌+◌, ◌↔◌, List, [], length, OnOk, MatchResult, None, IsTrue, drop, not};
 ghost use Rattle.std.specs.Option.{option_copied};
 ghost use Rattle.tab_keys.specs.Order.{key_cmp, key_lt};
 ghost use Rattle.tab_rows.specs.Rows.{AreRising, row_at, with_row, without_row, rows_from, rows_past, is_past};
@@ -150,8 +150,10 @@ fn count_up_to(rows: &[Row], table: u64, pk: &KeyText) -> usize
     )
 }
 
+// Whether the key lies above every key of the table and partition, whatever its row key.
 fn is_past(table: u64, pk: &KeyText, key: &Key) -> bool
-    ensures { result ≡ is_past table pk.now key.now }
+    ensures test { result ≡ is_past table pk.now key.now }
+    ensures above { IsTrue result ↔ ((rk : List ℕ) → IsTrue (key_lt (record { table = table; pk = pk.now; rk = rk }) key.now)) }
 {
     table.cmp(&key.table).then_with(|| pk.cmp(&key.pk)).is_lt()
 }

@@ -23,7 +23,6 @@ fn row(rt: &impl Abort, alloc: Global, key: Key, tick: u64) -> Result<Row, Fail>
     requires { tick ≤ GREATEST }
 {
     let (pk_units, rk_units) = (key.pk.units(), key.rk.units());
-    assert!(rt; pk_units <= 1024 && rk_units <= 1024);
     let entity = Entity::new(pk_units, rk_units, Vec::new(alloc))?;
     assert_eq!(rt; entity.pk_units(), pk_units);
     assert_eq!(rt; entity.rk_units(), rk_units);
