@@ -1,3 +1,4 @@
 mod DecimalLemmas
 mod HeadLemmas
 mod HeaderLemmas
+mod PlaceLemmas

@@ -6,6 +6,7 @@ mod decimals;
 mod fields;
 mod heads;
 mod messages;
+mod places;
 mod refusals;
 mod texts;
 
