@@ -1,4 +1,9 @@
+mod BodyLemmas
 mod DecimalLemmas
+mod Exits
 mod HeadLemmas
 mod HeaderLemmas
+mod MessageLemmas
 mod PlaceLemmas
+mod ReadingLemmas
+mod TakenLemmas

@@ -1,6 +1,6 @@
-ghost use Rattle.std.specs.Prelude.{◌≡◌, ℕ, ◌<◌, List, length, map, All, IsUtf8, IfOk, MatchOption};
-ghost use Rattle.httparse.specs.Grammar.{RequestHead, ReadsRequest};
-ghost use Rattle.httparse.specs.Spans.{IsHeaderWithin, span_bytes};
+ghost use Rattle.std.specs.Prelude.{◌≡◌, ℕ, ◌<◌, ◌≤◌, List, length, map, All, IsUtf8, IfOk, MatchOption, MatchBool};
+ghost use Rattle.httparse.specs.Grammar.{RequestHead, ReadsRequest, MayBecomeRequest};
+ghost use Rattle.httparse.specs.Spans.{IsHeaderWithin, RequestOverflows, span_bytes};
 ghost use Rattle.tab_http.specs.Heads.{HasNoHead, IsHead, IsFrontHead, header_at};
 
 use crate::messages::{Header, Headers};
@@ -59,6 +59,16 @@ impl Head {
             len: found.len,
         }))
     }
+}
+
+/// Whether no bytes that may follow make a head of these, which begin with none.
+pub(crate) fn is_beyond_repair(bytes: &[u8]) -> bool
+    requires none { HasNoHead bytes.now }
+    requires short { length bytes.now ≤ 32768 }
+    ensures { MatchBool result (RequestOverflows 64 bytes.now) (MayBecomeRequest bytes.now) }
+{
+    let mut spans = [EMPTY_HEADER_SPAN; MOST_HEADERS];
+    parse_request(bytes, &mut spans).is_err()
 }
 
 /// The headers that the spans cover.

@@ -2,15 +2,21 @@
 //! whole.
 #![tactic(auto)]
 
+mod bodies;
 mod decimals;
 mod fields;
+mod gathering;
 mod heads;
 mod messages;
 mod places;
+mod reading;
 mod refusals;
 mod texts;
+mod writing;
 
 pub use heads::Head;
 pub use messages::{Header, Headers, Message, first_value};
+pub use reading::read_message;
 pub use refusals::HttpRefused;
 pub use texts::{Bytes, Text};
+pub use writing::{WriteFault, write_reply};

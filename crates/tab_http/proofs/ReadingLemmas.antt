@@ -1,0 +1,158 @@
+-- Bytes that come read by read.
+use Rattle.std.proofs.Common.{◌≡◌, ◌≢◌, ℕ, ◌+◌, ◌-◌, ◌<◌, ◌≤◌, ◌↔◌, ◌⊎◌, ⊎_elim, inl, inr, List, [], ◌∷◌, ◌++◌, length, take, drop, refl, sym, ap, ◌∙◌, subst, arith, append_assoc, length-append, take-append-drop}
+use Rattle.std.specs.Prelude.{Option, Bool, true, false, fold}
+use Rattle.std.specs.Io.KnownBytes.{Consumes, IsAtEnd}
+use Rattle.std.proofs.KnownBytes.{Consumes-trans}
+use Rattle.std.proofs.Math.Seq.{take-append-add}
+use Rattle.std.proofs.lemmas.Bool.{both_ways}
+use Rattle.std.proofs.lemmas.List.{length-take, length-take-le, take-append-le, take-take, take_all, take_at, take_rest, append-nil, drop_at, drop-append-le}
+use Rattle.std.proofs.lemmas.List.Sums.{fold-append}
+use Rattle.httparse.specs.Grammar.{RequestHead, print_request, ReadsRequest}
+use Rattle.tab_http.proofs.PlaceLemmas.{head_ends, ended_within}
+use Rattle.tab_http.specs.Heads.{HasNoHead}
+use Rattle.tab_http.specs.Messages.{RefusesHeadless, IsParsed, IsOpen, in_head}
+use Rattle.tab_http.specs.Places.{next_place, place_after}
+use Rattle.tab_http.specs.Reading.{WereNeeded, none, last, Gathered, NeverHasHead, WithoutHead, HeadRefused, IsReadRefusal, ReadRefused}
+use Rattle.tab_http.specs.declared.places.Place.{Place}
+use Rattle.tab_http.specs.declared.places.Place.TheVariants.{Blank, Ended}
+use Rattle.tab_http.specs.declared.refusals.HttpRefused.{HttpRefused}
+use Rattle.tab_http.specs.declared.refusals.HttpRefused.TheVariants.{EndBetween, EndInside, Malformed, HeadTooLong, NoLength, BodyTooLong, ReadFault, Memory}
+use Rattle.tab_outside.specs.Transfers.{Moved}
+
+-- ---- one read
+
+-- a list that was grown begins with what it was
+pub grown_front : (old more : List ℕ) (start end : ℕ) → length old ≡ start → start ≤ end → take start (take end old ++ more) ≡ old
+grown_front old more start end size later = rw (take_all end old (omega arith)) (take_at old more start size)
+
+-- a list that was grown by a buffer, read into and cut has what it was, and behind it what was read
+pub cut_behind : (old grown ys rest tail : List ℕ) (start n size : ℕ) → length old ≡ start → take start grown ≡ old → n ≤ length ys → start + n ≤ size
+    → take (start + n) (take size (take start grown ++ (ys ++ rest) ++ tail)) ≡ old ++ take n ys
+cut_behind old grown ys rest tail start n size least front fits room =
+    let within : start ≤ length grown = omega (arith, length-take start grown, ap length front) in
+    let joined = append_assoc (take start grown) (ys ++ rest) tail ∙ ap (λ (zs : List ℕ). take start grown ++ zs) (append_assoc ys rest tail) in
+    let read : take (start + n) (take start grown ++ (ys ++ (rest ++ tail))) ≡ take start grown ++ take n ys =
+    ap (λ (m : ℕ). take (m + n) (take start grown ++ (ys ++ (rest ++ tail)))) (sym (length-take-le start grown within)) ∙ take-append-add (take start grown) (ys ++ (rest ++ tail)) n
+    ∙ ap (λ (zs : List ℕ). take start grown ++ zs) (take-append-le n ys (rest ++ tail) fits) in
+    take-take (start + n) size _ room ∙ ap (take (start + n)) joined ∙ read ∙ ap (λ (zs : List ℕ). zs ++ take n ys) front
+
+-- ---- read by read
+
+-- one read more of what is still open
+pub gathered_more : (old middle new : Option (List ℕ)) (before there after : List ℕ) → Gathered old middle before there → IsOpen there → Moved middle new there after → Gathered old new before after
+gathered_more old middle new before there after first is_open moved = record {
+  came = first.came ++ moved.bytes;
+  consumed = Consumes-trans old middle new first.came moved.bytes first.consumed moved.consumed;
+  needed = last first.came moved.bytes refl (subst IsOpen first.behind is_open);
+  behind = moved.behind ∙ ap (λ (xs : List ℕ). xs ++ moved.bytes) first.behind ∙ append_assoc before first.came moved.bytes;
+}
+
+-- bytes in which no head has ended are open
+pub open_before_end : (bytes : List ℕ) → place_after bytes ≢ Ended → length bytes < 32768 → IsOpen bytes
+open_before_end bytes not_yet short = in_head (λ h rest begins. not_yet (head_ends bytes h rest begins.reads)) short
+
+-- bytes that never have a head still have none when more have come
+pub still_none : (old new : Option (List ℕ)) (before after : List ℕ) → NeverHasHead before → Gathered old new before after → HasNoHead after
+still_none old new before after never gathered = subst HasNoHead (sym gathered.behind) (never gathered.came)
+
+-- bytes that never have a head are open
+pub open_without_head : (old new : Option (List ℕ)) (before after : List ℕ) → NeverHasHead before → Gathered old new before after → length after < 32768 → IsOpen after
+open_without_head old new before after never gathered short = in_head (still_none old new before after never gathered) short
+
+-- the place behind all bytes, from that behind those which were seen
+pub place_behind : (bytes : List ℕ) (seen : ℕ) (place : Place) → place ≡ place_after (take seen bytes) → fold next_place place (drop seen bytes) ≡ place_after bytes
+place_behind bytes seen place is =
+    ap (λ (p : Place). fold next_place p (drop seen bytes)) is ∙ sym (fold-append next_place Blank (take seen bytes) (drop seen bytes)) ∙ ap place_after (take-append-drop seen bytes)
+
+-- the place is that of the bytes that were there
+pub place_kept : (old new : Option (List ℕ)) (there after : List ℕ) (seen : ℕ) (place : Place) → seen ≡ length there → place ≡ place_after there → Moved old new there after → place ≡ place_after (take seen after)
+place_kept old new there after seen place size is moved = is ∙ ap place_after (sym (ap (take seen) moved.behind ∙ take_at there moved.bytes seen (sym size)))
+
+-- the place behind all bytes, as a walk from those that were seen on gives it
+pub place_read : (bytes shown : List ℕ) (seen : ℕ) (place after : Place) → shown ≡ bytes → place ≡ place_after (take seen bytes) → after ≡ fold next_place place (take (length shown - seen) (drop seen shown)) → after ≡ place_after bytes
+place_read bytes shown seen place after same is walked = rw same at (rw take_rest at walked) ∙ place_behind bytes seen place is
+
+-- bytes behind which no head has ended, by a test of their place
+pub open_at : (bytes : List ℕ) (place : Place) (test : Bool) → place ≡ place_after bytes → ((test ≡ true) ↔ (place ≡ Ended)) → test ≡ false → length bytes < 32768 → IsOpen bytes
+open_at bytes place test is tells not_yet short = open_before_end bytes (λ ended. both_ways test not_yet (tells.1 (is ∙ ended))) short
+
+-- a read that was refused where the bytes are open
+pub read_refused : (bytes : List ℕ) (refused : HttpRefused) → IsReadRefusal refused → IsOpen bytes → ReadRefused bytes refused
+read_refused bytes ReadFault may is_open = is_open
+read_refused bytes Memory may is_open = tt
+read_refused bytes EndBetween may is_open = absurd may
+read_refused bytes EndInside may is_open = absurd may
+read_refused bytes Malformed may is_open = absurd may
+read_refused bytes HeadTooLong may is_open = absurd may
+read_refused bytes NoLength may is_open = absurd may
+read_refused bytes BodyTooLong may is_open = absurd may
+
+-- the same as a head that is not given
+pub head_unread : (new : Option (List ℕ)) (bytes : List ℕ) (refused : HttpRefused) → ReadRefused bytes refused → HeadRefused new bytes refused
+head_unread new bytes ReadFault is_open = is_open
+head_unread new bytes Memory is_open = tt
+head_unread new bytes EndBetween is_open = absurd is_open
+head_unread new bytes EndInside is_open = absurd is_open
+head_unread new bytes Malformed is_open = absurd is_open
+head_unread new bytes HeadTooLong is_open = absurd is_open
+head_unread new bytes NoLength is_open = absurd is_open
+head_unread new bytes BodyTooLong is_open = absurd is_open
+
+-- two gatherings, one after the other, where the bytes between them never have a head
+pub gathered_on : (old middle new : Option (List ℕ)) (before there after : List ℕ) → Gathered old middle before there → Gathered middle new there after → Gathered old new before after
+gathered_on old middle new before there after first second = record {
+  came = first.came ++ second.came;
+  consumed = Consumes-trans old middle new first.came second.came first.consumed second.consumed;
+  needed = needed_on before there first.came second.came first.behind first.needed second.needed;
+  behind = second.behind ∙ ap (λ (xs : List ℕ). xs ++ second.came) first.behind ∙ append_assoc before first.came second.came;
+}
+  where
+    needed_on : (before there xs ys : List ℕ) → there ≡ before ++ xs → WereNeeded before xs → WereNeeded there ys → WereNeeded before (xs ++ ys)
+    needed_on before there xs ys is (none e) (none f) = none (ap (λ (zs : List ℕ). zs ++ ys) e ∙ f)
+    needed_on before there xs ys is (last front more e is_open) (none f) = last front more (ap (λ (zs : List ℕ). xs ++ zs) f ∙ append-nil xs ∙ e) is_open
+    needed_on before there xs ys is first (last front more e is_open) =
+        last (xs ++ front) more (ap (λ (zs : List ℕ). xs ++ zs) e ∙ sym (append_assoc xs front more)) (subst IsOpen (ap (λ (zs : List ℕ). zs ++ front) is ∙ append_assoc before xs front) is_open)
+
+-- ---- heads
+
+-- a head in bytes that it does not go past is theirs
+pub head_within : (bytes more : List ℕ) (h : RequestHead) (rest : List ℕ) → ReadsRequest (bytes ++ more) h rest → length (print_request h) ≤ length bytes
+    → ReadsRequest bytes h (drop (length (print_request h)) bytes) × (rest ≡ drop (length (print_request h)) bytes ++ more)
+head_within bytes more h rest reads short =
+    let size = length (print_request h) in
+    let front : take size bytes ≡ print_request h = sym (take-append-le size bytes more short) ∙ ap (take size) reads.1 ∙ take_at (print_request h) rest size refl in
+    let behind : rest ≡ drop size bytes ++ more = sym (drop_at (print_request h) rest size refl) ∙ ap (drop size) (sym reads.1) ∙ drop-append-le size bytes more short in
+    ((reads.0, sym (take-append-drop size bytes) ∙ ap (λ (xs : List ℕ). xs ++ drop size bytes) front), behind)
+
+-- bytes in which a head may have ended, or which are as many as a head may have, never have one that they have not
+pub never_later : (bytes : List ℕ) → HasNoHead bytes → (place_after bytes ≡ Ended) ⊎ (32768 ≤ length bytes) → NeverHasHead bytes
+never_later bytes no_head reached more h rest begins =
+    let inside : length (print_request h) ≤ length bytes = ⊎_elim (λ ended. ended_within bytes more h rest ended begins.reads) (λ many. omega (arith, many, begins.short)) reached in
+    no_head h (drop (length (print_request h)) bytes) (record { reads = (head_within bytes more h rest begins.reads inside).0; few = begins.few; short = begins.short })
+
+-- bytes that are refused without a head, as too many or as the input ends
+pub refused_headless : (new : Option (List ℕ)) (shown bytes : List ℕ) (refused : HttpRefused) → shown ≡ bytes → HasNoHead bytes → RefusesHeadless (length shown) refused → IsParsed shown refused
+    → (32768 ≤ length bytes) ⊎ IsAtEnd new → HeadRefused new bytes refused
+refused_headless new shown bytes EndBetween same no_head cause parsed reached = record {
+  no_head = no_head;
+  cause = rw (sym same) cause;
+  parsed = tt;
+  settled = ⊎_elim (λ many. absurd (omega (arith, many, cause, ap length same))) inr reached;
+}
+refused_headless new shown bytes EndInside same no_head cause parsed reached = record {
+  no_head = no_head;
+  cause = rw (sym same) cause;
+  parsed = rw (sym same) parsed;
+  settled = ⊎_elim (λ many. absurd (omega (arith, many, cause.1, ap length same))) inr reached;
+}
+refused_headless new shown bytes Malformed same no_head cause parsed reached = record {
+  no_head = no_head;
+  cause = rw (sym same) cause;
+  parsed = rw (sym same) parsed;
+  settled = ⊎_elim (λ many. absurd (omega (arith, many, cause.1, ap length same))) inr reached;
+}
+refused_headless new shown bytes HeadTooLong same no_head cause parsed reached = record { no_head = no_head; cause = rw (sym same) cause; parsed = tt; settled = inl refl }
+refused_headless new shown bytes NoLength same no_head cause parsed reached = absurd cause
+refused_headless new shown bytes BodyTooLong same no_head cause parsed reached = absurd cause
+refused_headless new shown bytes ReadFault same no_head cause parsed reached = absurd cause
+refused_headless new shown bytes Memory same no_head cause parsed reached = absurd cause

@@ -1,0 +1,16 @@
+use Rattle.std.proofs.Common.{◌≡◌, ℕ, ◌+◌, ◌-◌, ◌≤◌, take, vec_len}
+use Rattle.tab_http.specs.Places.{place_after}
+use Rattle.tab_http.specs.Reading.{Gathered}
+use Rattle.tab_http.proofs.gathering.read_to_head_end.Given as goal
+
+abbrev pub invariant-loop-place : goal.invariant-loop-place
+invariant-loop-place g l = record {
+  gathered : Gathered (g.S.Source.left l.fn.source) (g.S.Source.left l.source) l.fn.carry.items l.carry.items;
+  seen : l.seen ≤ vec_len l.carry;
+  place : l.place ≡ place_after (take l.seen l.carry.items);
+  later : g.S.Source.faults l.fn.source ≤ g.S.Source.faults l.source;
+  beside : g.S.Source.beside l.source ≡ g.S.Source.beside l.fn.source;
+}
+
+abbrev pub decreases-loop-place : goal.decreases-loop-place
+decreases-loop-place g l = 32769 - vec_len l.carry

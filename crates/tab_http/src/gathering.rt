@@ -1,0 +1,98 @@
+ghost use Rattle.std.specs.Prelude.{◌≡◌, ◌<◌, ◌≤◌, ◌⊎◌, length, take, vec_len, MatchBool, IfOk, IfErr, OnOk, OnErr, IsErrOf};
+ghost use Rattle.std.specs.Io.KnownBytes.{Consumes, IsAtEnd};
+ghost use Rattle.tab_http.specs.Places.{place_after};
+ghost use Rattle.tab_http.specs.Reading.{Gathered, NeverHasHead, ReadRefused, IsReadRefusal};
+ghost use Rattle.tab_http.specs.declared.places.Place.TheVariants.{Ended};
+ghost use Rattle.tab_outside.specs.Faults.{Rose};
+ghost use Rattle.tab_outside.specs.Transfers.{Moved};
+
+use crate::HttpRefused;
+use crate::heads::LONGEST_HEAD;
+use crate::places::Place;
+use tab_outside::Source;
+
+/// The most bytes that one read of a head asks for.
+const PIECE: usize = 4_096;
+
+/// Reads until a head may have ended, or as many bytes have come as it may have, or the input ends. Answers whether
+/// it has ended.
+pub fn read_to_head_end<S: Source>(source: &mut S, carry: &mut Vec<u8>) -> Result<bool, HttpRefused>
+    ensures gathered { Gathered (S.left source.old) (S.left source.new) carry.old.items carry.new.items }
+    ensures reached { IfOk result (λ ended. MatchBool ended (IsAtEnd (S.left source.new)) ((place_after carry.new.items ≡ Ended) ⊎ (32768 ≤ length carry.new.items))) }
+    ensures refused { IfErr result (ReadRefused carry.new.items) }
+    ensures fault { IsErrOf result HttpRefused.ReadFault → Rose (S.faults source.old) (S.faults source.new) }
+    ensures later { S.faults source.old ≤ S.faults source.new }
+    ensures beside { S.beside source.new ≡ S.beside source.old }
+{
+    let mut place = Place::Blank;
+    let mut seen = 0;
+    loop {
+        place = place.after(&carry[seen..]);
+        seen = carry.len();
+        if place.is_ended() || seen >= LONGEST_HEAD {
+            return Ok(false);
+        }
+        if !read_more(source, carry)? {
+            return Ok(true);
+        }
+    }
+}
+
+/// Reads until as many bytes have come as a head may have, or the input ends.
+pub fn read_to_limit<S: Source>(source: &mut S, carry: &mut Vec<u8>) -> Result<(), HttpRefused>
+    requires { NeverHasHead carry.old.items }
+    ensures gathered { Gathered (S.left source.old) (S.left source.new) carry.old.items carry.new.items }
+    ensures reached { OnOk result ((32768 ≤ length carry.new.items) ⊎ IsAtEnd (S.left source.new)) }
+    ensures refused { IfErr result (ReadRefused carry.new.items) }
+    ensures fault { IsErrOf result HttpRefused.ReadFault → Rose (S.faults source.old) (S.faults source.new) }
+    ensures later { S.faults source.old ≤ S.faults source.new }
+    ensures beside { S.beside source.new ≡ S.beside source.old }
+{
+    while carry.len() < LONGEST_HEAD {
+        if !read_more(source, carry)? {
+            return Ok(());
+        }
+    }
+    Ok(())
+}
+
+/// Reads once, behind what `carry` has. Answers whether any byte came; if none did, the input has ended.
+fn read_more<S: Source>(source: &mut S, carry: &mut Vec<u8>) -> Result<bool, HttpRefused>
+    ensures moved { Moved (S.left source.old) (S.left source.new) carry.old.items carry.new.items }
+    ensures came { IfOk result (λ some. MatchBool some (vec_len carry.old < vec_len carry.new) (IsAtEnd (S.left source.new))) }
+    ensures kept { OnErr result (carry.new.items ≡ carry.old.items) }
+    ensures refused { IfErr result IsReadRefusal }
+    ensures fault { IsErrOf result HttpRefused.ReadFault → Rose (S.faults source.old) (S.faults source.new) }
+    ensures later { S.faults source.old ≤ S.faults source.new }
+    ensures beside { S.beside source.new ≡ S.beside source.old }
+{
+    let start = carry.len();
+    let Some(end) = start.checked_add(PIECE) else {
+        return Err(HttpRefused::Memory);
+    };
+    let Ok(()) = carry.resize(end, 0) else {
+        return Err(HttpRefused::Memory);
+    };
+    let (count, read) = read_once(source, &mut carry[start..]);
+    carry.truncate(start + count);
+    read
+}
+
+/// Reads once into a buffer that has room. Answers how many bytes came, and whether any did.
+fn read_once<S: Source>(source: &mut S, buf: &mut [u8]) -> (usize, Result<bool, HttpRefused>)
+    requires { 0 < length buf.old }
+    ensures bound { result.0 ≤ length buf.old }
+    ensures bytes { Consumes (S.left source.old) (S.left source.new) (take result.0 buf.new) }
+    ensures came { IfOk result.1 (λ some. MatchBool some (0 < result.0) (IsAtEnd (S.left source.new))) }
+    ensures none { OnErr result.1 (result.0 ≡ 0) }
+    ensures refused { IfErr result.1 IsReadRefusal }
+    ensures fault { IsErrOf result.1 HttpRefused.ReadFault → Rose (S.faults source.old) (S.faults source.new) }
+    ensures later { S.faults source.old ≤ S.faults source.new }
+    ensures beside { S.beside source.new ≡ S.beside source.old }
+{
+    match source.read(buf) {
+        Ok(0) => (0, Ok(false)),
+        Ok(count) => (count, Ok(true)),
+        Err(_) => (0, Err(HttpRefused::ReadFault)),
+    }
+}
