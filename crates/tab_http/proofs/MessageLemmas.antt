@@ -7,7 +7,7 @@ use Rattle.httparse.proofs.GrammarLemmas.{ReadsRequest-append, request_unique}
 use Rattle.httparse.specs.Grammar.{RequestHead}
 use Rattle.tab_http.specs.Headers.{decimal_value, have_length, some_length, length_from, announced, needs_length, size_for, size_unless_coded, body_size}
 use Rattle.tab_http.specs.Heads.{BeginsWithHead, HasNoHead}
-use Rattle.tab_http.specs.Messages.{Answer, message_of, size_of_body, with_body, answer_of, RefusesHeadless, Spells, behind_head, without_head, IsParsers}
+use Rattle.tab_http.specs.Messages.{Answer, message_of, size_of_body, with_body, answer_of, RefusesHeadless, Spells, behind_head, without_head, IsParsers, IsOpen, in_head, in_body}
 use Rattle.tab_http.specs.declared.messages.Header.{Header}
 use Rattle.tab_http.specs.declared.messages.Message.{Message}
 use Rattle.tab_http.specs.declared.refusals.HttpRefused.{HttpRefused}
@@ -143,3 +143,12 @@ some_answer bytes none = refuse (cases_lt (length bytes) 32768)
         few_bytes : (0 < length bytes) ⊎ (length bytes ≤ 0) → ⊥
         few_bytes (inl some) = none (Err EndInside) (without_head EndInside no_head (some, few) refl)
         few_bytes (inr nothing) = none (Err EndBetween) (without_head EndBetween no_head (omega arith) refl)
+
+-- ---- open bytes
+
+pub open_spells_none : (bytes : List ℕ) (message : Message) (rest : List ℕ) → IsOpen bytes → Spells bytes (Ok (message, rest)) → ⊥
+open_spells_none bytes message rest (in_head no_head short) (behind_head h behind begins is) = no_head h behind begins
+open_spells_none bytes message rest (in_body h behind size begins sized short) (behind_head k other reads is) =
+    let same = request_unique bytes k h other behind reads.reads begins.reads in
+    no_message message rest EndInside (sym (body_short h behind size short) ∙ ap (with_body h behind) (sym sized) ∙ ap (answer_of h) (sym same.1) ∙ ap (λ (g : RequestHead). answer_of g other) (sym same.0) ∙ sym is)
+open_spells_none bytes message rest is_open (without_head refused none cause is) = no_message message rest refused (sym is)

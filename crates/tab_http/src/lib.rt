@@ -7,6 +7,7 @@ mod decimals;
 mod fields;
 mod gathering;
 mod heads;
+mod laws;
 mod messages;
 mod places;
 mod reading;
@@ -15,6 +16,7 @@ mod texts;
 mod writing;
 
 pub use heads::Head;
+pub use laws::{one_answer, open_bytes_spell_no_message, same_message_before_more, some_answer};
 pub use messages::{Header, Headers, Message, first_value};
 pub use reading::read_message;
 pub use refusals::HttpRefused;

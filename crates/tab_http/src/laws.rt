@@ -1,0 +1,24 @@
+ghost use Rattle.std.specs.Prelude.{◌≡◌, ℕ, ◌⊎◌, List, ◌++◌, Ok};
+ghost use Rattle.tab_http.specs.Heads.{HasNoHead};
+ghost use Rattle.tab_http.specs.Messages.{Answer, Spells, IsOpen, IsParsers};
+ghost use Rattle.tab_http.specs.declared.messages.Message.{Message as TheMessage};
+
+/// No bytes spell two answers, but where they begin with no head and the parser decides between two refusals.
+pub fn one_answer()
+    ensures { (bytes : List ℕ) (a b : Answer) → Spells bytes a → Spells bytes b → (a ≡ b) ⊎ (HasNoHead bytes × IsParsers a × IsParsers b) }
+{}
+
+/// There are no bytes that spell no answer.
+pub fn some_answer()
+    ensures { (bytes : List ℕ) → ((answer : Answer) → Spells bytes answer → ⊥) → ⊥ }
+{}
+
+/// What follows a message does not change it.
+pub fn same_message_before_more()
+    ensures { (bytes more : List ℕ) (message : TheMessage) (rest : List ℕ) → Spells bytes (Ok (message, rest)) → Spells (bytes ++ more) (Ok (message, rest ++ more)) }
+{}
+
+/// Bytes that are open spell no message.
+pub fn open_bytes_spell_no_message()
+    ensures { (bytes : List ℕ) (message : TheMessage) (rest : List ℕ) → IsOpen bytes → Spells bytes (Ok (message, rest)) → ⊥ }
+{}
