@@ -19,23 +19,6 @@ use Rattle.tab_http.specs.declared.refusals.HttpRefused.{HttpRefused}
 use Rattle.tab_http.specs.declared.refusals.HttpRefused.TheVariants.{EndBetween, EndInside, Malformed, HeadTooLong, NoLength, BodyTooLong, ReadFault, Memory}
 use Rattle.tab_outside.specs.Transfers.{Moved}
 
--- ---- one read
-
--- a list that was grown begins with what it was
-pub grown_front : (old more : List ℕ) (start end : ℕ) → length old ≡ start → start ≤ end → take start (take end old ++ more) ≡ old
-grown_front old more start end size later = rw (take_all end old (omega arith)) (take_at old more start size)
-
--- a list that was grown by a buffer, read into and cut has what it was, and behind it what was read
-pub cut_behind : (old grown ys rest tail : List ℕ) (start n size : ℕ) → length old ≡ start → take start grown ≡ old → n ≤ length ys → start + n ≤ size
-    → take (start + n) (take size (take start grown ++ (ys ++ rest) ++ tail)) ≡ old ++ take n ys
-cut_behind old grown ys rest tail start n size least front fits room =
-    let within : start ≤ length grown = omega (arith, length-take start grown, ap length front) in
-    let joined = append_assoc (take start grown) (ys ++ rest) tail ∙ ap (λ (zs : List ℕ). take start grown ++ zs) (append_assoc ys rest tail) in
-    let read : take (start + n) (take start grown ++ (ys ++ (rest ++ tail))) ≡ take start grown ++ take n ys =
-    ap (λ (m : ℕ). take (m + n) (take start grown ++ (ys ++ (rest ++ tail)))) (sym (length-take-le start grown within)) ∙ take-append-add (take start grown) (ys ++ (rest ++ tail)) n
-    ∙ ap (λ (zs : List ℕ). take start grown ++ zs) (take-append-le n ys (rest ++ tail) fits) in
-    take-take (start + n) size _ room ∙ ap (take (start + n)) joined ∙ read ∙ ap (λ (zs : List ℕ). zs ++ take n ys) front
-
 -- ---- read by read
 
 -- one read more of what is still open

@@ -1,5 +1,5 @@
-ghost use Rattle.std.specs.Prelude.{◌≡◌, ◌<◌, ◌≤◌, ◌⊎◌, length, take, vec_len, MatchBool, IfOk, IfErr, OnOk, OnErr, IsErrOf};
-ghost use Rattle.std.specs.Io.KnownBytes.{Consumes, IsAtEnd};
+ghost use Rattle.std.specs.Prelude.{◌≡◌, ◌<◌, ◌≤◌, ◌⊎◌, length, vec_len, MatchBool, IfOk, IfErr, OnOk, OnErr, IsErrOf};
+ghost use Rattle.std.specs.Io.KnownBytes.{IsAtEnd};
 ghost use Rattle.tab_http.specs.Places.{place_after};
 ghost use Rattle.tab_http.specs.Reading.{Gathered, NeverHasHead, ReadRefused, IsReadRefusal};
 ghost use Rattle.tab_http.specs.declared.places.Place.TheVariants.{Ended};
@@ -24,6 +24,7 @@ pub fn read_to_head_end<S: Source>(source: &mut S, carry: &mut Vec<u8>) -> Resul
     ensures later { S.faults source.old ≤ S.faults source.new }
     ensures beside { S.beside source.new ≡ S.beside source.old }
 {
+    let mut piece = [0; PIECE];
     let mut place = Place::Blank;
     let mut seen = 0;
     loop {
@@ -32,7 +33,7 @@ pub fn read_to_head_end<S: Source>(source: &mut S, carry: &mut Vec<u8>) -> Resul
         if place.is_ended() || seen >= LONGEST_HEAD {
             return Ok(false);
         }
-        if !read_more(source, carry)? {
+        if !read_more(source, &mut piece, carry)? {
             return Ok(true);
         }
     }
@@ -48,16 +49,23 @@ pub fn read_to_limit<S: Source>(source: &mut S, carry: &mut Vec<u8>) -> Result<(
     ensures later { S.faults source.old ≤ S.faults source.new }
     ensures beside { S.beside source.new ≡ S.beside source.old }
 {
+    let mut piece = [0; PIECE];
     while carry.len() < LONGEST_HEAD {
-        if !read_more(source, carry)? {
+        if !read_more(source, &mut piece, carry)? {
             return Ok(());
         }
     }
     Ok(())
 }
 
-/// Reads once, behind what `carry` has. Answers whether any byte came; if none did, the input has ended.
-fn read_more<S: Source>(source: &mut S, carry: &mut Vec<u8>) -> Result<bool, HttpRefused>
+/// Reads once, by way of a buffer, behind what `carry` has. Answers whether any byte came; if none did, the input has
+/// ended.
+fn read_more<S: Source>(
+    source: &mut S,
+    piece: &mut [u8],
+    carry: &mut Vec<u8>,
+) -> Result<bool, HttpRefused>
+    requires { 0 < length piece.old }
     ensures moved { Moved (S.left source.old) (S.left source.new) carry.old.items carry.new.items }
     ensures came { IfOk result (λ some. MatchBool some (vec_len carry.old < vec_len carry.new) (IsAtEnd (S.left source.new))) }
     ensures kept { OnErr result (carry.new.items ≡ carry.old.items) }
@@ -66,33 +74,12 @@ fn read_more<S: Source>(source: &mut S, carry: &mut Vec<u8>) -> Result<bool, Htt
     ensures later { S.faults source.old ≤ S.faults source.new }
     ensures beside { S.beside source.new ≡ S.beside source.old }
 {
-    let start = carry.len();
-    let Some(end) = start.checked_add(PIECE) else {
+    let Ok(()) = carry.reserve(piece.len()) else {
         return Err(HttpRefused::Memory);
     };
-    let Ok(()) = carry.resize(end, 0) else {
-        return Err(HttpRefused::Memory);
+    let Ok(count) = source.read(piece) else {
+        return Err(HttpRefused::ReadFault);
     };
-    let (count, read) = read_once(source, &mut carry[start..]);
-    carry.truncate(start + count);
-    read
-}
-
-/// Reads once into a buffer that has room. Answers how many bytes came, and whether any did.
-fn read_once<S: Source>(source: &mut S, buf: &mut [u8]) -> (usize, Result<bool, HttpRefused>)
-    requires { 0 < length buf.old }
-    ensures bound { result.0 ≤ length buf.old }
-    ensures bytes { Consumes (S.left source.old) (S.left source.new) (take result.0 buf.new) }
-    ensures came { IfOk result.1 (λ some. MatchBool some (0 < result.0) (IsAtEnd (S.left source.new))) }
-    ensures none { OnErr result.1 (result.0 ≡ 0) }
-    ensures refused { IfErr result.1 IsReadRefusal }
-    ensures fault { IsErrOf result.1 HttpRefused.ReadFault → Rose (S.faults source.old) (S.faults source.new) }
-    ensures later { S.faults source.old ≤ S.faults source.new }
-    ensures beside { S.beside source.new ≡ S.beside source.old }
-{
-    match source.read(buf) {
-        Ok(0) => (0, Ok(false)),
-        Ok(count) => (count, Ok(true)),
-        Err(_) => (0, Err(HttpRefused::ReadFault)),
-    }
+    carry.extend_from_slice(&piece[..count]).unwrap();
+    Ok(count > 0)
 }

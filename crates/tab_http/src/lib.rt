@@ -12,6 +12,8 @@ mod messages;
 mod places;
 mod reading;
 mod refusals;
+#[cfg(test)]
+mod tests;
 mod texts;
 mod writing;
 

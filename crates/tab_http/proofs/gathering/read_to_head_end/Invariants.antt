@@ -3,8 +3,8 @@ use Rattle.tab_http.specs.Places.{place_after}
 use Rattle.tab_http.specs.Reading.{Gathered}
 use Rattle.tab_http.proofs.gathering.read_to_head_end.Given as goal
 
-abbrev pub invariant-loop-place : goal.invariant-loop-place
-invariant-loop-place g l = record {
+abbrev pub invariant-loop-piece : goal.invariant-loop-piece
+invariant-loop-piece g l = record {
   gathered : Gathered (g.S.Source.left l.fn.source) (g.S.Source.left l.source) l.fn.carry.items l.carry.items;
   seen : l.seen ≤ vec_len l.carry;
   place : l.place ≡ place_after (take l.seen l.carry.items);
@@ -12,5 +12,5 @@ invariant-loop-place g l = record {
   beside : g.S.Source.beside l.source ≡ g.S.Source.beside l.fn.source;
 }
 
-abbrev pub decreases-loop-place : goal.decreases-loop-place
-decreases-loop-place g l = 32769 - vec_len l.carry
+abbrev pub decreases-loop-piece : goal.decreases-loop-piece
+decreases-loop-piece g l = 32769 - vec_len l.carry
