@@ -1,5 +1,5 @@
 -- A head that was parsed, its parts, and what bytes behind it change.
-use Rattle.std.proofs.Common.{◌≡◌, ℕ, ◌+◌, ◌<◌, ◌≤◌, min, true, List, [], ◌∷◌, ◌++◌, length, take, drop, map, refl, sym, ap, ◌∙◌, subst, arith, append_assoc, length-append, take-append-drop}
+use Rattle.std.proofs.Common.{◌≡◌, ℕ, ◌<◌, ◌≤◌, min, true, List, [], ◌∷◌, ◌++◌, length, take, drop, map, refl, sym, ap, ◌∙◌, arith, append_assoc, length-append, take-append-drop}
 use Rattle.std.specs.Prelude.{All, IsUtf8, Option, Some, None, MatchOption, Result, Ok, Err, IfOk}
 use Rattle.std.proofs.lemmas.Bool.Decides.{nat_tests}
 use Rattle.std.proofs.lemmas.List.{drop_at, take_at, take-take, length-map, length-take}
@@ -11,9 +11,8 @@ use Rattle.httparse.specs.Spans.{span_bytes, header_bytes, name_and_value, IsReq
 use Rattle.httparse.specs.declared.spans.HeaderSpan.{HeaderSpan}
 use Rattle.httparse.specs.declared.spans.RequestSpans.{RequestSpans}
 use Rattle.tab_outside.specs.declared.Memory.{Memory}
-use Rattle.tab_http.specs.Heads.{BeginsWithHead, HasNoHead, header_of, headers_of, HasParts, IsHead, IsFrontHead, header_at}
+use Rattle.tab_http.specs.Heads.{HasNoHead, header_of, IsHead, IsFrontHead, header_at}
 use Rattle.tab_http.specs.declared.heads.Head.{Head}
-use Rattle.tab_http.specs.declared.messages.Header.{Header}
 
 -- ---- the parts of a head
 

@@ -1,18 +1,17 @@
 -- Bytes that come read by read.
-use Rattle.std.proofs.Common.{◌≡◌, ◌≢◌, ℕ, ◌+◌, ◌-◌, ◌<◌, ◌≤◌, ◌↔◌, ◌⊎◌, ⊎_elim, inl, inr, List, [], ◌∷◌, ◌++◌, length, take, drop, refl, sym, ap, ◌∙◌, subst, arith, append_assoc, length-append, take-append-drop}
+use Rattle.std.proofs.Common.{◌≡◌, ◌≢◌, ℕ, ◌-◌, ◌<◌, ◌≤◌, ◌↔◌, ◌⊎◌, ⊎_elim, inl, inr, List, ◌++◌, length, take, drop, refl, sym, ap, ◌∙◌, subst, arith, append_assoc, take-append-drop}
 use Rattle.std.specs.Prelude.{Option, Bool, true, false, fold}
-use Rattle.std.specs.Io.KnownBytes.{Consumes, IsAtEnd}
+use Rattle.std.specs.Io.KnownBytes.{IsAtEnd}
 use Rattle.std.proofs.KnownBytes.{Consumes-trans}
-use Rattle.std.proofs.Math.Seq.{take-append-add}
 use Rattle.std.proofs.lemmas.Bool.{both_ways}
-use Rattle.std.proofs.lemmas.List.{length-take, length-take-le, take-append-le, take-take, take_all, take_at, take_rest, append-nil, drop_at, drop-append-le}
+use Rattle.std.proofs.lemmas.List.{take-append-le, take_at, take_rest, append-nil, drop_at, drop-append-le}
 use Rattle.std.proofs.lemmas.List.Sums.{fold-append}
 use Rattle.httparse.specs.Grammar.{RequestHead, print_request, ReadsRequest}
 use Rattle.tab_http.proofs.PlaceLemmas.{head_ends, ended_within}
 use Rattle.tab_http.specs.Heads.{HasNoHead}
 use Rattle.tab_http.specs.Messages.{RefusesHeadless, IsParsed, IsOpen, in_head}
 use Rattle.tab_http.specs.Places.{next_place, place_after}
-use Rattle.tab_http.specs.Reading.{WereNeeded, none, last, Gathered, NeverHasHead, WithoutHead, HeadRefused, IsReadRefusal, ReadRefused}
+use Rattle.tab_http.specs.Reading.{WereNeeded, none, last, Gathered, NeverHasHead, HeadRefused, IsReadRefusal, ReadRefused}
 use Rattle.tab_http.specs.declared.places.Place.{Place}
 use Rattle.tab_http.specs.declared.places.Place.TheVariants.{Blank, Ended}
 use Rattle.tab_http.specs.declared.refusals.HttpRefused.{HttpRefused}

@@ -3,15 +3,14 @@ use Rattle.std.proofs.Common.{◌≡◌, ℕ, ◌+◌, ◌-◌, ◌<◌, ◌≤�
 use Rattle.std.specs.Prelude.{Option, Some, None, Result, Ok, Err, IfOk, IfErr}
 use Rattle.std.specs.Io.KnownBytes.{Consumes, IsAtEnd}
 use Rattle.std.proofs.KnownBytes.{Consumes-trans}
-use Rattle.std.proofs.lemmas.Bool.{cases_lt}
-use Rattle.std.proofs.lemmas.List.{append-nil, drop_at, length-take, nil_from_length, take_at}
+use Rattle.std.proofs.lemmas.List.{append-nil, drop_at, length-take, take_at}
 use Rattle.httparse.specs.Grammar.{RequestHead}
 use Rattle.tab_http.proofs.MessageLemmas.{IsSizeRefusal, size_refused, begins_more, body_short, body_whole, spells_more}
 use Rattle.tab_http.proofs.ReadingLemmas.{never_later}
 use Rattle.tab_http.specs.Headers.{body_size, closes}
 use Rattle.tab_http.specs.Heads.{BeginsWithHead, HasNoHead, HasParts, headers_of}
-use Rattle.tab_http.specs.Messages.{Answer, message_of, size_of_body, with_body, answer_of, RefusesHeadless, IsParsed, Spells, behind_head, without_head, IsOpen, in_head, in_body}
-use Rattle.tab_http.specs.Reading.{WereNeeded, none, last, TookMessage, StaysRefused, TookRefused, TookOpen, TookNeeded, Refuses, AnswersAll, Gathered, WithoutHead, HeadRefused, TookBody, TookPart, BodyRefused}
+use Rattle.tab_http.specs.Messages.{Answer, message_of, size_of_body, with_body, answer_of, RefusesHeadless, IsParsed, Spells, behind_head, without_head, IsOpen, in_body}
+use Rattle.tab_http.specs.Reading.{WereNeeded, last, TookMessage, StaysRefused, TookRefused, Refuses, AnswersAll, Gathered, WithoutHead, HeadRefused, TookBody, TookPart, BodyRefused}
 use Rattle.tab_http.specs.declared.heads.Head.{Head}
 use Rattle.tab_http.specs.declared.messages.Header.{Header}
 use Rattle.tab_http.specs.declared.messages.Message.{Message}

@@ -1,5 +1,5 @@
 -- What the headers of a request say of its body and of its connection (RFC 9110 and RFC 9112).
-use Rattle.std.specs.Prelude.{ℕ, ◌^◌, Bool, true, false, ◌||◌, ◌&&◌, ◌==◌, nat_le, nat_lt, List, [], ◌∷◌, map, filter, find, Option, Some, None, Result, Ok, Err, if◌then◌else◌, codes, decimal, bytes_eq, is_some}
+use Rattle.std.specs.Prelude.{ℕ, ◌^◌, Bool, false, ◌||◌, ◌&&◌, ◌==◌, nat_le, nat_lt, List, [], ◌∷◌, map, filter, find, Option, Some, None, Result, Ok, Err, if◌then◌else◌, codes, decimal, bytes_eq, is_some}
 use Rattle.std.specs.Char.{to_ascii_lowercase}
 use Rattle.std.specs.List.{list_any, list_all}
 use Rattle.std.specs.Option.{option_map, option_map_or}

@@ -1,5 +1,5 @@
 -- What bytes spell: a request and what is behind it, or the first refusal (RFC 9112, sections 2 and 6).
-use Rattle.std.specs.Prelude.{◌≡◌, ℕ, ◌<◌, ◌≤◌, ◌⊎◌, nat_le, List, ◌++◌, length, take, drop, Result, Ok, Err, if◌then◌else◌, ⊤}
+use Rattle.std.specs.Prelude.{◌≡◌, ℕ, ◌<◌, ◌≤◌, ◌⊎◌, nat_le, List, length, take, drop, Result, Ok, Err, if◌then◌else◌, ⊤}
 use Rattle.httparse.specs.Grammar.{RequestHead, MayBecomeRequest}
 use Rattle.httparse.specs.Spans.{RequestOverflows}
 use Rattle.tab_http.specs.Headers.{body_size, closes}

@@ -1,11 +1,11 @@
 -- What reading a message takes from a source, and what it leaves.
-use Rattle.std.specs.Prelude.{◌≡◌, ℕ, ◌+◌, ◌<◌, ◌≤◌, ◌⊎◌, List, [], ◌∷◌, ◌++◌, length, drop, Option, Some, Result, Ok, Err, ⊤}
+use Rattle.std.specs.Prelude.{◌≡◌, ℕ, ◌<◌, ◌⊎◌, List, [], ◌++◌, length, Option, Some, Result, Ok, Err, ⊤}
 use Rattle.std.specs.Io.KnownBytes.{Consumes, IsAtEnd}
 use Rattle.tab_http.specs.Heads.{HasNoHead}
 use Rattle.tab_http.specs.Messages.{RefusesHeadless, Spells, IsParsed, IsOpen}
 use Rattle.tab_http.specs.declared.messages.Message.{Message}
 use Rattle.tab_http.specs.declared.refusals.HttpRefused.{HttpRefused}
-use Rattle.tab_http.specs.declared.refusals.HttpRefused.TheVariants.{EndBetween, EndInside, HeadTooLong, ReadFault, Memory}
+use Rattle.tab_http.specs.declared.refusals.HttpRefused.TheVariants.{EndInside, HeadTooLong, ReadFault, Memory}
 use Rattle.tab_outside.specs.declared.pieces.FillRefused.{FillRefused}
 use Rattle.tab_outside.specs.declared.pieces.FillRefused.TheVariants.{Ended, Failed, Memory as NoRoom}
 

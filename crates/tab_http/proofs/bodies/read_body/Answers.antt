@@ -1,4 +1,4 @@
-use Rattle.std.proofs.Common.{rules, ◌∙◌, sym, arith}
+use Rattle.std.proofs.Common.{rules}
 use Rattle.tab_http.proofs.BodyLemmas.{body_taken}
 use Rattle.tab_http.proofs.bodies.read_body.Goals as goal
 

@@ -1,5 +1,4 @@
-use Rattle.std.proofs.Common.{rules, tests}
-use Rattle.std.proofs.lemmas.Grind.{common_steps}
+use Rattle.std.proofs.Common.{rules}
 use Rattle.httparse.specs.Grammar.{trim_ows}
 use Rattle.tab_http.specs.Headers.{is_close}
 use Rattle.tab_http.proofs.fields.is_close.Goals as goal

@@ -1,4 +1,4 @@
-use Rattle.std.proofs.Common.{rules, sym, ◌∙◌, add-one, ap, refl}
+use Rattle.std.proofs.Common.{rules, sym, ◌∙◌, add-one}
 use Rattle.std.proofs.lemmas.Bool.{or_left}
 use Rattle.std.proofs.lemmas.List.{take_rest}
 use Rattle.tab_http.proofs.HeaderLemmas.{closes_first, closes_whole}

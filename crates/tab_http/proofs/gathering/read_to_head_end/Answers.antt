@@ -1,10 +1,9 @@
-use Rattle.std.proofs.Common.{rules, inl, inr, sym, ◌∙◌, subst, ◌≡◌, ◌<◌, length, arith}
+use Rattle.std.proofs.Common.{rules, inl, inr, sym, ◌∙◌, subst, arith}
 use Rattle.tab_http.proofs.Exits.{passed_on}
 use Rattle.tab_http.proofs.ReadingLemmas.{gathered_more, place_read, place_kept, open_at, read_refused}
 use Rattle.tab_http.proofs.gathering.read_to_head_end.Goals as goal
 use Rattle.tab_http.proofs.gathering.read_to_head_end.Goals.{then-is_ended-via-then-is_ended, then-is_ended-via-else-is_ended+then-seen-ge-LONGEST_HEAD}
 use Rattle.tab_http.specs.Messages.{IsOpen}
-use Rattle.tab_http.specs.Places.{place_after}
 use Rattle.tab_http.specs.Reading.{ReadRefused}
 
 pub returns-then-is_ended-clause-reached : goal.returns-then-is_ended-clause-reached

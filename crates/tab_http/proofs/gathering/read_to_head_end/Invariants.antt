@@ -1,4 +1,4 @@
-use Rattle.std.proofs.Common.{◌≡◌, ℕ, ◌+◌, ◌-◌, ◌≤◌, take, vec_len}
+use Rattle.std.proofs.Common.{◌≡◌, ◌-◌, ◌≤◌, take, vec_len}
 use Rattle.tab_http.specs.Places.{place_after}
 use Rattle.tab_http.specs.Reading.{Gathered}
 use Rattle.tab_http.proofs.gathering.read_to_head_end.Given as goal

@@ -1,4 +1,4 @@
-use Rattle.std.proofs.Common.{◌≡◌, ℕ, ◌+◌, ◌-◌, ◌≤◌, vec_len}
+use Rattle.std.proofs.Common.{◌≡◌, ◌-◌, ◌≤◌, vec_len}
 use Rattle.tab_http.specs.Reading.{Gathered}
 use Rattle.tab_http.proofs.gathering.read_to_limit.Given as goal
 

@@ -1,4 +1,3 @@
-use Rattle.std.proofs.Common.{rules}
 use Rattle.tab_http.proofs.heads.headers_of.Goals as goal
 
 pub text_of-requires : goal.text_of-requires

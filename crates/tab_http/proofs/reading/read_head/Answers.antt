@@ -1,4 +1,4 @@
-use Rattle.std.proofs.Common.{rules, sym, subst}
+use Rattle.std.proofs.Common.{sym, subst}
 use Rattle.tab_http.proofs.Exits.{passed_on}
 use Rattle.tab_http.proofs.ReadingLemmas.{head_unread, gathered_on, never_later, still_none, refused_headless}
 use Rattle.tab_http.proofs.reading.read_head.Goals as goal

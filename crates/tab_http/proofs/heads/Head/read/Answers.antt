@@ -1,4 +1,3 @@
-use Rattle.std.proofs.Common.{rules}
 use Rattle.tab_http.proofs.HeadLemmas.{whole_found}
 use Rattle.tab_http.proofs.heads.Head.read.Goals as goal
 

@@ -1,4 +1,4 @@
-use Rattle.std.proofs.Common.{rules, arith, refl}
+use Rattle.std.proofs.Common.{rules, refl}
 use Rattle.tab_http.proofs.HeadLemmas.{token_text, names_text, front_head}
 use Rattle.tab_http.proofs.heads.Head.read_front.Goals as goal
 
