@@ -1,6 +1,6 @@
 -- What the JSON body of a request says. A body is one object (RFC 8259) as `serde_json` reads it, whose members stand in
 -- byte order of their names.
-use Rattle.std.specs.Prelude.{ℕ, ◌-◌, List, [], ◌∷◌, ◌++◌, length, take, map, fold, Bool, true, false, not, ◌&&◌, ◌||◌, ◌==◌, if◌then◌else◌, Option, Some, None, is_some, ok_or, option_map, option_and_then, Result, Ok, Err, codes, bytes_eq}
+use Rattle.std.specs.Prelude.{ℕ, ◌-◌, List, [], ◌∷◌, ◌++◌, length, take, map, fold, Bool, true, false, not, ◌&&◌, ◌||◌, ◌==◌, if◌then◌else◌, ⊤, Option, Some, None, is_some, ok_or, option_map, option_and_then, Result, Ok, Err, codes, bytes_eq}
 use Rattle.std.specs.List.{starts_with, ends_with}
 use Rattle.std.specs.Str.{is_utf8}
 use Rattle.serde_json.specs.Data.{Data, null, boolean, number, string, array, object, Members, no_members, member}
@@ -8,6 +8,7 @@ use Rattle.serde_json.specs.Find.{get, get_member, as_null, as_str}
 use Rattle.serde_json.specs.Read.{read}
 use Rattle.tab_keys.specs.KeyTexts.{key_refusal}
 use Rattle.tab_keys.specs.declared.key_texts.KeyRefused.{KeyRefused}
+use Rattle.tab_edm.specs.Values.{IsInTime}
 use Rattle.tab_edm.specs.declared.values.Value.{Value}
 use Rattle.tab_edm.specs.declared.values.Property.{Property}
 use Rattle.tab_json.specs.Values.{named_type, own_type, value_as}
@@ -123,6 +124,13 @@ meaning_by body (Some annotated) name value = annotation_meaning body annotated 
 unfoldable pub meaning_of : Data → List ℕ → Data → Result Meaning JsonRefused
 meaning_of body name value = if is_ignored name then Ok Meaning.Nothing else meaning_by body (annotated_by name) name value
 
+-- a moment among the properties is at most the last one
+abbrev pub IsTimely : Meaning → Type 0
+IsTimely Meaning.Nothing = ⊤
+IsTimely (Meaning.PartitionKey key) = ⊤
+IsTimely (Meaning.RowKey key) = ⊤
+IsTimely (Meaning.Property property) = IsInTime property.value
+
 -- ---- bodies
 
 -- what each member of a body means, in byte order of their names
@@ -152,7 +160,7 @@ no_entity = record { pk = None; rk = None; properties = [] }
 
 -- the entity that members give, or the first refusal among them in byte order of their names
 unfoldable pub entity_in : Data → Members → Result BodyEntity JsonRefused
-entity_in body members = mapped (fold with_meaning no_entity) (unless_one_refused (meanings body members))
+entity_in body ms = mapped (fold with_meaning no_entity) (unless_one_refused (meanings body ms))
 
 -- the text of a table's name
 unfoldable pub table_in : Members → Result (List ℕ) JsonRefused

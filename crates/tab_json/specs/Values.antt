@@ -1,5 +1,5 @@
 -- The values that JSON values stand for, by the types of OData.
-use Rattle.std.specs.Prelude.{◌≡◌, ℕ, ◌+◌, ◌-◌, ◌*◌, ◌^◌, ℤ, pos, negsuc, neg_ℤ, List, ◌++◌, length, take, drop, Bool, ◌&&◌, nat_lt, nat_le, int_le, int_lt, if◌then◌else◌, Option, Some, None, option_map, option_and_then, codes, bytes_eq}
+use Rattle.std.specs.Prelude.{◌≡◌, ℕ, ◌+◌, ◌-◌, ◌*◌, ◌^◌, ℤ, pos, negsuc, List, ◌++◌, length, take, drop, Bool, ◌&&◌, nat_lt, nat_le, if◌then◌else◌, Option, Some, None, option_map, option_and_then, codes, bytes_eq}
 use Rattle.std.specs.Fmt.{signed_decimal}
 use Rattle.std.specs.Str.Parse.{digits_value, signed_digits_value}
 use Rattle.serde_json.specs.Data.{Data, null, boolean, number, string, array, object}
@@ -34,19 +34,24 @@ own_type null = None
 own_type (array _) = None
 own_type (object _) = None
 
--- a whole number, where it is within 32 bits
-abbrev pub within_32_bits : ℤ → Option ℤ
-within_32_bits z = if int_le (neg_ℤ (pos (2 ^ 31))) z && int_lt z (pos (2 ^ 31)) then Some z else None
+-- the numbers of 32 bits, and of 64
+abbrev pub fits_32_bits : ℤ → Bool
+fits_32_bits (pos n) = nat_lt n (2 ^ 31)
+fits_32_bits (negsuc n) = nat_lt n (2 ^ 31)
 
--- the whole number within 32 bits that a JSON number is, of which one with a point, with an exponent or `-0` is none
+abbrev pub fits_64_bits : ℤ → Bool
+fits_64_bits (pos n) = nat_lt n (2 ^ 63)
+fits_64_bits (negsuc n) = nat_lt n (2 ^ 63)
+
+-- the number of 32 bits that a JSON value is; one with a point, one with an exponent and `-0` are floats and no such number
 abbrev pub int32_of : Data → Option ℤ
-int32_of value = option_and_then within_32_bits (option_and_then as_i64 (as_number value))
+int32_of value = option_and_then (λ z. if fits_32_bits z then Some z else None) (option_and_then as_i64 (as_number value))
 
--- the whole number within 64 bits whose decimal text this is
+-- the number of 64 bits whose decimal text this is
 unfoldable pub int64_of : List ℕ → Option ℤ
 int64_of text =
     let z = signed_digits_value 10 text in
-    if bytes_eq (signed_decimal z) text && int_le (neg_ℤ (pos (2 ^ 63))) z && int_lt z (pos (2 ^ 63)) then Some z else None
+    if bytes_eq (signed_decimal z) text && fits_64_bits z then Some z else None
 
 -- the parts of a moment
 pub record MomentParts : Type 0 where

@@ -1,6 +1,19 @@
 // What the members of a body mean.
-use tab_edm::Property;
-use tab_keys::KeyText;
+ghost use Rattle.std.specs.Prelude.{◌≡◌, ◌≢◌, IfOk, IfSome, MatchResult, Ok, Err, option_map, option_and_then, option_copied};
+ghost use Rattle.serde_json.specs.View.{view};
+ghost use Rattle.tab_keys.specs.KeyTexts.{key_refusal};
+ghost use Rattle.tab_edm.specs.Values.{IsInTime};
+ghost use Rattle.tab_json.specs.Bodies.{is_ignored, annotated_by, names_value, is_present, is_given, type_in, type_by, type_of, value_of, text_as, text_of, unless_refused, key_by, property_by, annotation_meaning, value_meaning, meaning_of, IsTimely};
+
+use crate::JsonRefused;
+use crate::types::{EdmType, named_type, own_type, text_value, value_as};
+use serde_json::Value as Json;
+use std::alloc::Global;
+use tab_edm::{Memory, Property, Value};
+use tab_keys::{KeyRefused, KeyText};
+
+/// What the name of an annotation has behind the name that it annotates.
+const ANNOTATION: &str = "@odata.type";
 
 /// What a member of a body means, if it is not refused.
 #[derive(Debug, Drop)]
@@ -10,4 +23,216 @@ pub enum Meaning {
     PartitionKey(KeyText),
     RowKey(KeyText),
     Property(Property),
+}
+
+/// What the member of a body with this name and value means.
+#[tactic(auto, unfolding(crate::specs::Bodies::meaning_of, crate::specs::Bodies::annotated_by))]
+pub(crate) fn meaning_of(
+    alloc: Global,
+    body: &Json,
+    name: &str,
+    value: &Json,
+) -> Result<Meaning, JsonRefused>
+    ensures meaning { MatchResult result
+        (λ meaning. meaning_of (view body.now) name.now (view value.now) ≡ Ok meaning)
+        (λ why. why ≢ JsonRefused.Memory → meaning_of (view body.now) name.now (view value.now) ≡ Err why) }
+    ensures in_time { IfOk result IsTimely }
+{
+    if is_ignored(name) {
+        return Ok(Meaning::Nothing);
+    }
+    match annotated_by(name) {
+        Some(annotated) => annotation_meaning(alloc, body, annotated, value),
+        None => value_meaning(alloc, body, name, value),
+    }
+}
+
+fn is_ignored(name: &str) -> bool
+    ensures { result ≡ is_ignored name.now }
+{
+    name.starts_with("odata.") || name == "Timestamp" || name == "Timestamp@odata.type"
+}
+
+/// The name that a name annotates.
+#[tactic(auto, unfolding(crate::specs::Bodies::annotated_by))]
+fn annotated_by(name: &str) -> Option<&str>
+    ensures { option_copied result ≡ annotated_by name.now }
+{
+    name.strip_suffix(ANNOTATION)
+}
+
+/// Whether a body gives the key or the property of this name.
+fn is_given(body: &Json, name: &str) -> bool
+    ensures { result ≡ is_given (view body.now) name.now }
+{
+    names_value(name) && is_present(body.get(name))
+}
+
+fn names_value(name: &str) -> bool
+    ensures { result ≡ names_value name.now }
+{
+    !is_ignored(name) && annotated_by(name).is_none()
+}
+
+fn is_present(value: Option<&Json>) -> bool
+    ensures { result ≡ is_present (option_map (λ v. view v.now) value.entry) }
+{
+    match value {
+        Some(value) => !value.is_null(),
+        None => false,
+    }
+}
+
+/// The type that an annotation names.
+fn type_in(annotation: &Json) -> Option<EdmType>
+    ensures { result ≡ type_in (view annotation.now) }
+{
+    annotation.as_str().and_then(named_type)
+}
+
+/// The type of the member of a body with this name and value.
+fn type_of(alloc: Global, body: &Json, name: &str, value: &Json) -> Result<Option<EdmType>, Memory>
+    ensures { IfOk result (λ found. found ≡ type_of (view body.now) name.now (view value.now)) }
+{
+    let annotation = format!(in alloc; "{name}{ANNOTATION}")?;
+    Ok(type_by(body.get(annotation.as_str()), value))
+}
+
+/// The type of a value with this annotation, if there is one.
+fn type_by(annotation: Option<&Json>, value: &Json) -> Option<EdmType>
+    ensures { result ≡ type_by (option_map (λ v. view v.now) annotation.entry) (view value.now) }
+{
+    match annotation {
+        Some(annotation) => type_in(annotation),
+        None => own_type(value),
+    }
+}
+
+/// A refusal of the member of this name by its type.
+pub(crate) fn value_type(alloc: Global, name: &str) -> JsonRefused
+    ensures { result ≢ JsonRefused.Memory → result ≡ JsonRefused.ValueType name.now }
+{
+    match text_value(alloc, name) {
+        Ok(name) => JsonRefused::ValueType(name),
+        Err(_) => JsonRefused::Memory,
+    }
+}
+
+/// What an annotation of this name means.
+fn annotation_meaning(
+    alloc: Global,
+    body: &Json,
+    name: &str,
+    annotation: &Json,
+) -> Result<Meaning, JsonRefused>
+    ensures meaning { MatchResult result
+        (λ meaning. annotation_meaning (view body.now) name.now (view annotation.now) ≡ Ok meaning)
+        (λ why. why ≢ JsonRefused.Memory → annotation_meaning (view body.now) name.now (view annotation.now) ≡ Err why) }
+    ensures in_time { IfOk result IsTimely }
+{
+    if is_given(body, name) || type_in(annotation).is_some() {
+        Ok(Meaning::Nothing)
+    } else {
+        Err(value_type(alloc, name))
+    }
+}
+
+/// What a key or a property of this name and value means.
+fn value_meaning(
+    alloc: Global,
+    body: &Json,
+    name: &str,
+    value: &Json,
+) -> Result<Meaning, JsonRefused>
+    ensures meaning { MatchResult result
+        (λ meaning. value_meaning (view body.now) name.now (view value.now) ≡ Ok meaning)
+        (λ why. why ≢ JsonRefused.Memory → value_meaning (view body.now) name.now (view value.now) ≡ Err why) }
+    ensures in_time { IfOk result IsTimely }
+{
+    if value.is_null() {
+        return Ok(Meaning::Nothing);
+    }
+    match name {
+        "PartitionKey" => match read_key(alloc, body, name, value) {
+            Ok(key) => Ok(Meaning::PartitionKey(key)),
+            Err(why) => Err(why),
+        },
+        "RowKey" => match read_key(alloc, body, name, value) {
+            Ok(key) => Ok(Meaning::RowKey(key)),
+            Err(why) => Err(why),
+        },
+        _ => read_property(alloc, body, name, value),
+    }
+}
+
+/// The key that the member of this name and value is.
+#[tactic(auto, unfolding(crate::specs::Bodies::text_of))]
+fn read_key(alloc: Global, body: &Json, name: &str, value: &Json) -> Result<KeyText, JsonRefused>
+    ensures { MatchResult result
+        (λ key. key_by name.now (text_of (view body.now) name.now (view value.now)) ≡ Ok key)
+        (λ why. why ≢ JsonRefused.Memory → key_by name.now (text_of (view body.now) name.now (view value.now)) ≡ Err why) }
+{
+    let Ok(edm_type) = type_of(alloc, body, name, value) else {
+        return Err(JsonRefused::Memory);
+    };
+    match text_as(edm_type, value) {
+        Some(text) => key_of(alloc, text),
+        None => Err(value_type(alloc, name)),
+    }
+}
+
+/// The text of a key whose value has this type.
+fn text_as(edm_type: Option<EdmType>, value: &Json) -> Option<&str>
+    ensures { option_copied result ≡ option_and_then (λ t. text_as t (view value.now)) edm_type }
+{
+    match edm_type {
+        Some(EdmType::String) => value.as_str(),
+        _ => None,
+    }
+}
+
+fn key_of(alloc: Global, text: &str) -> Result<KeyText, JsonRefused>
+    ensures { MatchResult result
+        (λ key. unless_refused text.now (key_refusal text.now) ≡ Ok key)
+        (λ why. why ≢ JsonRefused.Memory → unless_refused text.now (key_refusal text.now) ≡ Err why) }
+{
+    match KeyText::new(alloc, text) {
+        Ok(key) => Ok(key),
+        Err(KeyRefused::Memory) => Err(JsonRefused::Memory),
+        Err(why) => Err(JsonRefused::Key(why)),
+    }
+}
+
+/// The property that the member of this name and value is.
+fn read_property(
+    alloc: Global,
+    body: &Json,
+    name: &str,
+    value: &Json,
+) -> Result<Meaning, JsonRefused>
+    ensures meaning { MatchResult result
+        (λ meaning. property_by name.now (value_of (view body.now) name.now (view value.now)) ≡ Ok meaning)
+        (λ why. why ≢ JsonRefused.Memory → property_by name.now (value_of (view body.now) name.now (view value.now)) ≡ Err why) }
+    ensures in_time { IfOk result IsTimely }
+{
+    match value_of(alloc, body, name, value) {
+        Ok(Some(value)) => match text_value(alloc, name) {
+            Ok(name) => Ok(Meaning::Property(Property { name, value })),
+            Err(_) => Err(JsonRefused::Memory),
+        },
+        Ok(None) => Err(value_type(alloc, name)),
+        Err(_) => Err(JsonRefused::Memory),
+    }
+}
+
+/// The value of the property that the member of this name and value is.
+#[tactic(auto, unfolding(crate::specs::Bodies::value_of))]
+fn value_of(alloc: Global, body: &Json, name: &str, value: &Json) -> Result<Option<Value>, Memory>
+    ensures value { IfOk result (λ found. found ≡ value_of (view body.now) name.now (view value.now)) }
+    ensures in_time { IfOk result (λ found. IfSome found IsInTime) }
+{
+    match type_of(alloc, body, name, value)? {
+        Some(edm_type) => value_as(alloc, edm_type, value),
+        None => Ok(None),
+    }
 }
