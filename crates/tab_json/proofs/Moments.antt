@@ -1,5 +1,5 @@
 -- The moments that are read are those that a text gives: `moment_of` computes what `IsMoment` says.
-use Rattle.std.proofs.Common.{◌≡◌, ℕ, zero, suc, ◌+◌, ◌-◌, ◌*◌, ◌/◌, ◌%◌, ◌^◌, ◌<◌, ◌≤◌, List, [], ◌∷◌, ◌++◌, length, take, drop, Bool, true, false, ◌&&◌, cond, Option, Some, None, bytes_eq, codes, pos, refl, sym, ap, subst, ◌∙◌, arith, length-drop, if◌then◌else◌}
+use Rattle.std.proofs.Common.{◌≡◌, ℕ, zero, suc, ◌+◌, ◌-◌, ◌/◌, ◌%◌, ◌^◌, ◌<◌, ◌≤◌, List, length, take, drop, Bool, true, false, ◌&&◌, cond, Option, Some, None, bytes_eq, codes, refl, sym, ap, subst, ◌∙◌, arith, length-drop, if◌then◌else◌}
 use Rattle.std.proofs.lemmas.Bool.{and_parts, and_from, leb-true, le-leb, ltb-true, lt-ltb}
 use Rattle.std.proofs.lemmas.Int.Digits.{digits_value_push}
 use Rattle.std.proofs.lemmas.Slice.Eq.{bytes_eq-Decides}
@@ -7,11 +7,10 @@ use Rattle.std.proofs.lemmas.Str.{digit_value_digit}
 use Rattle.std.proofs.lemmas.List.{drop-take, take-take, drop-drop, take_rest}
 use Rattle.std.proofs.Math.Nat.{pow-suc}
 use Rattle.std.specs.Str.Parse.{digits_value}
-use Rattle.jiff_core.specs.Calendar.{days_in_month}
-use Rattle.tab_edm.specs.Moments.{CivilDate, IsServed, Spells, IsMoment, last_digits, text_of_date, text_of_time, text_of_fraction}
+use Rattle.tab_edm.specs.Moments.{CivilDate, IsServed, IsMoment, last_digits, text_of_fraction}
 use Rattle.tab_edm.proofs.Dates.{same_parts}
-use Rattle.tab_edm.proofs.Digits.{last_digits_none, last_digits_more, length-last_digits}
-use Rattle.tab_edm.proofs.Pieces.{DateFields, TimeFields, FractionFields, MomentFields, fields_of_date, fields_of_time, fields_of_fraction}
+use Rattle.tab_edm.proofs.Digits.{last_digits_none, last_digits_more}
+use Rattle.tab_edm.proofs.Pieces.{fields_of_date, fields_of_time, fields_of_fraction}
 use Rattle.tab_edm.proofs.Readings.{spelled_fields, day_small}
 use Rattle.tab_json.specs.Values.{MomentParts, number_at, parts_in, text_of_parts, is_real_date, are_real_parts, tick_of_parts, moment_of}
 

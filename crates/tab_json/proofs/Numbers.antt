@@ -1,6 +1,6 @@
 -- The numbers of 64 bits are read from just their decimal texts.
-use Rattle.std.proofs.Common.{◌≡◌, ◌≢◌, ◌↔◌, ℕ, ◌^◌, ◌<◌, ℤ, pos, negsuc, List, Bool, true, false, ◌&&◌, nat_lt, cond, Option, Some, None, Result, Ok, Err, bytes_eq, refl, sym, ap, subst, ◌∙◌, arith, FitsSigned, w64}
-use Rattle.std.proofs.lemmas.Bool.{ltb-true, lt-ltb, and_parts, cond-true}
+use Rattle.std.proofs.Common.{◌≡◌, ◌≢◌, ◌↔◌, ℕ, ◌^◌, ℤ, pos, negsuc, List, Bool, true, false, ◌&&◌, cond, Option, Some, None, Result, Ok, Err, bytes_eq, refl, sym, ap, subst, ◌∙◌, FitsSigned, w64}
+use Rattle.std.proofs.lemmas.Bool.{ltb-true, lt-ltb}
 use Rattle.std.proofs.lemmas.Fmt.{parse-signed_decimal}
 use Rattle.std.proofs.lemmas.Slice.Eq.{bytes_eq-Decides}
 use Rattle.std.specs.Fmt.{signed_decimal}

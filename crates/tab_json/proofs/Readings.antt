@@ -1,5 +1,5 @@
 -- Bodies, member by member.
-use Rattle.std.proofs.Common.{◌≡◌, ℕ, zero, suc, ◌<◌, List, [], ◌∷◌, ◌++◌, length, get_or, Bool, true, false, ◌&&◌, ◌||◌, not, cond, IsTrue, IsFalse, Option, Some, None, is_some, Result, Ok, Err, fold, bytes_eq, codes, String, Global, Less, string_bytes, nat_cmp, string_cmp, refl, sym, ap, ◌∙◌, arith, append_assoc, append-nil}
+use Rattle.std.proofs.Common.{◌≡◌, ◌≢◌, ℕ, Equal, true≢false, List, [], ◌∷◌, ◌++◌, Bool, true, false, ◌||◌, cond, IsTrue, IsFalse, Option, Some, None, is_some, Result, Ok, Err, fold, bytes_eq, codes, String, Global, Less, string_bytes, nat_cmp, string_cmp, refl, sym, ap, ◌∙◌, arith, append_assoc, append-nil}
 use Rattle.std.specs.Bool.{⊤}
 use Rattle.std.specs.List.{All, AllPairs, AllByRecursion}
 use Rattle.std.specs.List.Sorted.{IsStrictlySortedBy}
@@ -7,7 +7,8 @@ use Rattle.std.specs.Map.{keys_of}
 use Rattle.std.specs.Ordering.{is_lt}
 use Rattle.std.specs.Cmp.Lexicographic.{slice_cmp}
 use Rattle.std.proofs.lemmas.Bool.{or_from, or_parts}
-use Rattle.std.proofs.lemmas.List.Elements.{All-cons, All-nil, All-weaker}
+use Rattle.std.proofs.lemmas.Cmp.{nat_list_cmp_total, tied_itself}
+use Rattle.std.proofs.lemmas.List.Elements.{All-cons, All-nil}
 use Rattle.std.proofs.lemmas.List.Kept.{AllPairs-cons}
 use Rattle.serde_json.specs.Data.{Data, Members, no_members, member}
 use Rattle.serde_json.specs.View.{members_view}
@@ -16,7 +17,7 @@ use Rattle.tab_edm.specs.Entities.{name_lt, IsRising}
 use Rattle.tab_edm.specs.Values.{is_reserved}
 use Rattle.tab_edm.specs.declared.values.Value.{Value}
 use Rattle.tab_edm.specs.declared.values.Property.{Property}
-use Rattle.tab_json.specs.Bodies.{is_ignored, annotated_by, is_null, is_given, type_in, text_of, value_of, key_by, property_by, given_meaning, annotation_meaning, value_meaning, meaning_by, meaning_of, mapped, before, meanings, unless_one_refused, with_meaning, no_entity, entity_in}
+use Rattle.tab_json.specs.Bodies.{is_ignored, annotated_by, is_null, is_given, type_in, text_of, value_of, key_by, property_by, meaning_by, meaning_of, mapped, before, meanings, unless_one_refused, with_meaning, no_entity, entity_in}
 use Rattle.tab_json.specs.declared.meanings.Meaning.{Meaning}
 use Rattle.tab_json.specs.declared.bodies.BodyEntity.{BodyEntity}
 use Rattle.tab_json.specs.declared.bodies.JsonRefused.{JsonRefused}
@@ -217,3 +218,14 @@ unfolding entity_in IsOf
 entity_unreserved body es entity e =
     let from = from_meanings _ entity e in
     let every = all_of (λ _. ⊤) body es from.all from.read_is (anything (keys_of es)) in rw (from.properties_are) (λ k d within. (every k d within).1)
+
+-- ---- names that rise
+
+apart : (a b : List ℕ) → IsBelow a b → a ≢ b
+apart a b lower same =
+    let tied : slice_cmp nat_cmp b b ≡ Equal = tied_itself nat_list_cmp_total b in
+    absurd (true≢false (sym lower ∙ ap (λ (x : List ℕ). is_lt (slice_cmp nat_cmp x b)) same ∙ ap is_lt tied))
+
+-- names that rise are not the same
+pub distinct : (properties : List Property) → IsRising properties → AllPairs (λ a b. a.name ≢ b.name) properties
+distinct properties rising i j d lt within = apart _ _ (rising i j d lt within)

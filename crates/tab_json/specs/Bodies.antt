@@ -1,6 +1,6 @@
 -- What the JSON body of a request says. A body is one object (RFC 8259) as `serde_json` reads it, whose members stand in
 -- byte order of their names.
-use Rattle.std.specs.Prelude.{ℕ, ◌-◌, List, [], ◌∷◌, ◌++◌, length, take, map, fold, Bool, true, false, not, ◌&&◌, ◌||◌, ◌==◌, if◌then◌else◌, ⊤, Option, Some, None, is_some, ok_or, option_map, option_and_then, Result, Ok, Err, codes, bytes_eq}
+use Rattle.std.specs.Prelude.{ℕ, ◌-◌, List, [], ◌∷◌, ◌++◌, length, take, fold, Bool, false, not, ◌&&◌, ◌||◌, ◌==◌, if◌then◌else◌, ⊤, Option, Some, None, is_some, ok_or, option_and_then, Result, Ok, Err, codes, bytes_eq}
 use Rattle.std.specs.List.{starts_with, ends_with}
 use Rattle.std.specs.Str.{is_utf8}
 use Rattle.serde_json.specs.Data.{Data, null, boolean, number, string, array, object, Members, no_members, member}
@@ -10,7 +10,6 @@ use Rattle.tab_keys.specs.KeyTexts.{key_refusal}
 use Rattle.tab_keys.specs.declared.key_texts.KeyRefused.{KeyRefused}
 use Rattle.tab_edm.specs.Values.{IsInTime}
 use Rattle.tab_edm.specs.declared.values.Value.{Value}
-use Rattle.tab_edm.specs.declared.values.Property.{Property}
 use Rattle.tab_json.specs.Values.{named_type, own_type, value_as}
 use Rattle.tab_json.specs.declared.types.EdmType.{EdmType}
 use Rattle.tab_json.specs.declared.meanings.Meaning.{Meaning}

@@ -1,4 +1,4 @@
-ghost use Rattle.std.specs.Prelude.{◌≡◌, ◌≢◌, MatchResult, Ok, Err, OnOk, Some, None, option_map, option_and_then, All, IsFalse, codes, string_bytes};
+ghost use Rattle.std.specs.Prelude.{◌≡◌, ◌≢◌, MatchResult, Ok, Err, OnOk, Some, None, option_map, option_and_then, All, AllPairs, IsFalse, codes, string_bytes};
 ghost use Rattle.serde_json.specs.Find.{as_str};
 ghost use Rattle.serde_json.specs.View.{view, members_view};
 ghost use Rattle.tab_edm.specs.Entities.{IsRising};
@@ -61,6 +61,7 @@ impl Properties {
     pub fn into_vec(self) -> Vec<Property>
         ensures properties { result.items ≡ self }
         ensures rising { IsRising result.items }
+        ensures distinct { AllPairs (λ a b. a.name ≢ b.name) result.items }
         ensures unreserved { All (λ p. IsFalse (is_reserved p.name)) result.items }
         ensures in_time { All (λ p. IsInTime p.value) result.items }
     {

@@ -7,6 +7,8 @@ mod faults;
 mod meanings;
 mod members;
 mod tables;
+#[cfg(test)]
+mod tests;
 mod types;
 mod values;
 

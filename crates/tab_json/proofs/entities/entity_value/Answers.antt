@@ -1,4 +1,4 @@
-use Rattle.std.proofs.Common.{◌∙◌, ap, ◌≡◌}
+use Rattle.std.proofs.Common.{◌∙◌, ap}
 use Rattle.serde_json.specs.Data.{object}
 use Rattle.tab_json.specs.Entities.{entity_data}
 use Rattle.tab_json.specs.Objects.{object_of}

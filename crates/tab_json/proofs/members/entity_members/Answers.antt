@@ -1,6 +1,6 @@
 use Rattle.std.proofs.Common.{sym, ap, ◌∙◌}
 use Rattle.serde_json.specs.Data.{no_members}
-use Rattle.serde_json.specs.View.{members_view, members_of}
+use Rattle.serde_json.specs.View.{members_view}
 use Rattle.tab_json.specs.Entities.{key_members, entity_members}
 use Rattle.tab_json.specs.Objects.{with_members}
 use Rattle.tab_json.proofs.ObjectLemmas.{put_both}

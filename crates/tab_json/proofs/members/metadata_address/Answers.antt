@@ -1,4 +1,4 @@
-use Rattle.std.proofs.Common.{◌∙◌, append_assoc}
+use Rattle.std.proofs.Common.{append_assoc}
 use Rattle.tab_json.specs.Entities.{metadata_address}
 use Rattle.tab_json.proofs.members.metadata_address.Goals as goal
 

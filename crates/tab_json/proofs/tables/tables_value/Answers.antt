@@ -1,7 +1,7 @@
-use Rattle.std.proofs.Common.{◌∙◌, ap, sym, ◌≡◌, append-nil, codes}
+use Rattle.std.proofs.Common.{◌∙◌, ap, sym, append-nil, codes}
 use Rattle.serde_json.specs.Data.{object}
 use Rattle.tab_json.specs.Entities.{metadata_address}
-use Rattle.tab_json.specs.Objects.{object_of, with_members}
+use Rattle.tab_json.specs.Objects.{object_of}
 use Rattle.tab_json.specs.Tables.{tables_data}
 use Rattle.tab_json.proofs.ObjectLemmas.{put_both, with_members-one}
 use Rattle.tab_json.proofs.tables.tables_value.Goals as goal

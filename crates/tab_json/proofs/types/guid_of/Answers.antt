@@ -1,4 +1,3 @@
-use Rattle.std.proofs.Common.{◌≡◌, Err, IsOk}
 use Rattle.uuid.specs.Text.{parsed}
 use Rattle.tab_json.proofs.Options.{none_unless}
 use Rattle.tab_json.proofs.types.guid_of.Goals as goal
