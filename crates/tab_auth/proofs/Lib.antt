@@ -1,0 +1,5 @@
+pub mod Blocks
+pub mod Differences
+pub mod Fronts
+pub mod Colons
+pub mod Signings

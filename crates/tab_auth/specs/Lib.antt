@@ -1,0 +1,4 @@
+pub mod Digests
+pub mod Signatures
+pub mod Checks
+pub mod SignedRequests

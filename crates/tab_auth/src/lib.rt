@@ -1,0 +1,13 @@
+//! Requests signed with an account's key, by the scheme SharedKeyLite.
+#![tactic(auto)]
+
+mod checks;
+mod claims;
+mod digests;
+mod signatures;
+#[cfg(test)]
+mod tests;
+
+pub use checks::{AuthRefused, Signed, check};
+pub use digests::hmac;
+pub use signatures::{Keys, sign_lite};
