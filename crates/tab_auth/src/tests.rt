@@ -9,7 +9,7 @@ use tab_edm::{BytesValue, TextValue};
 const KEY: &[u8; 200] =
     b"A key for tests, made of whole sentences so that no two places of it look alike. It goes on until it has two hundred bytes, which is more than three blocks of the hash that stands under all of this. 0";
 
-// The first digest is the example of RFC 2104's users in RFC 4231, 4.3; the others are what this prints for each KEY:
+// The first digest is that of RFC 4231, 4.3; the others are what this prints for each KEY:
 // python3 -c 'import hmac, hashlib; print(hmac.new(KEY, b"what do ya want for nothing?", hashlib.sha256).hexdigest())'
 #[test]
 fn digests_under_keys_of_each_length(rt: HostRuntime) {
@@ -55,7 +55,7 @@ const SECOND: u64 = 1_377_133_926;
 
 const TABLES: &str = "SharedKeyLite shop:ljubvrg9+JsICblbao50GsJgQhnu/FBBiKCk1wMikuw=";
 
-// Each signature here and below is what this prints for its DATE and RESOURCE:
+// Each signature here and below is what this prints for its DATE and RESOURCE, as /shop/shop/Tables:
 // printf '%s\n%s' "$DATE" "$RESOURCE" | openssl dgst -sha256 -hmac Jefe -binary | base64
 #[test]
 fn takes_a_date_within_900_seconds(rt: HostRuntime) -> Result<(), Fail> {
