@@ -1,5 +1,5 @@
 -- A message comes to one thing.
-use Rattle.std.proofs.Common.{◌≡◌, ℕ, ◌⊎◌, ◌-◌, List, length, take, drop, arith, refl, sym, ap, ◌∙◌, inl, inr, Option, None}
+use Rattle.std.proofs.Common.{◌≡◌, ℕ, ◌-◌, List, length, take, drop, arith, refl, sym, ap, ◌∙◌, inl, inr, Option, None}
 use Rattle.std.proofs.lemmas.List.{take_all, length-drop}
 use Rattle.httparse.proofs.GrammarLemmas.{request_unique}
 use Rattle.httparse.specs.Grammar.{RequestHead}

@@ -1,5 +1,5 @@
 -- What is made of the properties of a body.
-use Rattle.std.proofs.Common.{◌≡◌, ◌≢◌, ℕ, List, IsTrue, Option, Some, None, Ok, Err, true≢false, refl, sym, ap, ◌∙◌, nat_cmp, Equal}
+use Rattle.std.proofs.Common.{◌≡◌, ◌≢◌, ℕ, List, IsTrue, Option, Some, None, Ok, true≢false, sym, ap, ◌∙◌, nat_cmp, Equal}
 use Rattle.std.specs.Ordering.{is_lt}
 use Rattle.std.specs.Cmp.Lexicographic.{slice_cmp}
 use Rattle.std.specs.List.{AllPairs}

@@ -1,6 +1,6 @@
 -- What a message comes to: a request to the store, a refusal, or nothing that is served. A message is a head of HTTP/1.1
 -- (RFC 9112) in the grammar of `httparse`, and a body.
-use Rattle.std.specs.Prelude.{◌≡◌, ℕ, ◌⊎◌, List, [], ◌∷◌, length, Bool, true, false, not, ◌&&◌, ◌||◌, ◌==◌, Option, Some, None, option_and_then, Result, Ok, Err, if◌then◌else◌, codes, decimal, bytes_eq}
+use Rattle.std.specs.Prelude.{◌≡◌, ℕ, ◌⊎◌, List, [], ◌∷◌, length, Bool, false, not, ◌&&◌, ◌||◌, ◌==◌, Option, Some, None, option_and_then, Result, Ok, Err, if◌then◌else◌, codes, decimal, bytes_eq}
 use Rattle.std.specs.List.{list_all, list_any}
 use Rattle.httparse.specs.Grammar.{RequestHead}
 use Rattle.tab_keys.specs.KeyTexts.{units_of, key_refusal}

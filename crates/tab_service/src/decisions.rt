@@ -101,16 +101,16 @@ fn decided_on(
             if !is_plain_read(headers, body) {
                 return Ok(None);
             }
-            answered(alloc, decided_row(alloc, account, headers, pk.as_str(), rk.as_str())?)
+            answered(
+                alloc,
+                decided_row(alloc, account, headers, pk.as_str(), rk.as_str())?,
+            )
         }
         _ => Ok(None),
     }
 }
 
-fn answered(
-    alloc: Global,
-    decided: Result<Request, Refusal>,
-) -> Result<Option<Decided>, Memory>
+fn answered(alloc: Global, decided: Result<Request, Refusal>) -> Result<Option<Decided>, Memory>
     ensures { IfOk result (λ found. found ≡ answered decided) }
 {
     match decided {
@@ -199,9 +199,7 @@ fn insert_from(
         return Ok(Err(Refusal::KeysMissing));
     };
     match Entity::new(pk.units(), rk.units(), properties.into_vec()) {
-        Ok(entity) => {
-            Ok(Ok(insert_request(alloc, account, minimal, prefer, pk, rk, entity)?))
-        }
+        Ok(entity) => { Ok(Ok(insert_request(alloc, account, minimal, prefer, pk, rk, entity)?)) }
         Err(EdmRefused::Memory) => Err(Memory),
         Err(why) => Ok(Err(Refusal::Entity(why))),
     }
@@ -366,12 +364,7 @@ fn insert_request(
 }
 
 /// All properties, in this format.
-fn form_of(
-    alloc: Global,
-    account: &str,
-    minimal: bool,
-    prefer: Prefer,
-) -> Result<Form, Memory>
+fn form_of(alloc: Global, account: &str, minimal: bool, prefer: Prefer) -> Result<Form, Memory>
     ensures { IfOk result (λ form. form ≡ form_of account.now minimal prefer) }
 {
     let Ok(account) = String::from_str(alloc, account) else {

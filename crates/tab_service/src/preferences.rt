@@ -10,10 +10,7 @@ use tab_keys::Memory;
 
 /// Whether the reply is to have minimal metadata, by the first Accept header, or why it cannot be as that asks.
 #[tactic(auto, unfolding(crate::specs::Preferences::format_for))]
-pub(crate) fn format_for(
-    alloc: Global,
-    headers: &[Header],
-) -> Result<Result<bool, Refusal>, Memory>
+pub(crate) fn format_for(alloc: Global, headers: &[Header]) -> Result<Result<bool, Refusal>, Memory>
     ensures { IfOk result (λ format. format ≡ format_for headers.now) }
 {
     let Some(value) = first_value(headers, "accept") else {

@@ -75,7 +75,12 @@ fn body_fault(alloc: Global, why: &JsonRefused) -> Result<Vec<u8>, Memory>
         JsonRefused::NotJson => no_object_fault(alloc),
         JsonRefused::NotObject => no_object_fault(alloc),
         JsonRefused::ValueType(name) => {
-            let text = around(alloc, "The value of ", name.as_str(), " is not of its type.")?;
+            let text = around(
+                alloc,
+                "The value of ",
+                name.as_str(),
+                " is not of its type.",
+            )?;
             fault_reply(alloc, 400, "InvalidValueType", text.as_str())
         }
         JsonRefused::Key(why) => key_fault(alloc, *why),
@@ -101,7 +106,12 @@ fn entity_fault(alloc: Global, why: &EdmRefused) -> Result<Vec<u8>, Memory>
 {
     match why {
         EdmRefused::NameInvalid(property) => {
-            let text = around(alloc, "The property name ", property.name.as_str(), " is not valid.")?;
+            let text = around(
+                alloc,
+                "The property name ",
+                property.name.as_str(),
+                " is not valid.",
+            )?;
             fault_reply(alloc, 400, "PropertyNameInvalid", text.as_str())
         }
         EdmRefused::NameTooLong(_) => fault_reply(
@@ -111,7 +121,12 @@ fn entity_fault(alloc: Global, why: &EdmRefused) -> Result<Vec<u8>, Memory>
             "A property name is longer than 255 characters.",
         ),
         EdmRefused::ValueTooLarge(property) => {
-            let text = around(alloc, "The value of ", property.name.as_str(), " is too large.")?;
+            let text = around(
+                alloc,
+                "The value of ",
+                property.name.as_str(),
+                " is too large.",
+            )?;
             fault_reply(alloc, 400, "PropertyValueTooLarge", text.as_str())
         }
         EdmRefused::TooMany => fault_reply(

@@ -20,7 +20,9 @@ const MEMORY_REPLY: &str =
 
 /// The types of bodies.
 const MINIMAL_JSON: &str = "application/json;odata=minimalmetadata;streaming=true;charset=utf-8";
+
 const PLAIN_JSON: &str = "application/json;odata=nometadata;streaming=true;charset=utf-8";
+
 const JSON: &str = "application/json";
 
 /// The version of the protocol that is spoken.
@@ -57,12 +59,7 @@ pub(crate) fn memory_bytes(alloc: Global) -> Result<Vec<u8>, Memory>
 }
 
 #[tactic(auto, unfolding(crate::specs::Replies::page_reply))]
-fn page_reply(
-    alloc: Global,
-    form: &Form,
-    name: &TableName,
-    page: &Page,
-) -> Result<Vec<u8>, Memory>
+fn page_reply(alloc: Global, form: &Form, name: &TableName, page: &Page) -> Result<Vec<u8>, Memory>
     ensures { IfOk result (λ bytes. bytes.items ≡ page_reply form.now.account name.now form.now.json page.now.rows) }
 {
     let body = write_page(alloc, form.account.as_str(), name, page, &form.json)?;
@@ -179,12 +176,7 @@ fn denied_reply(alloc: Global, why: Denied) -> Result<Vec<u8>, Memory>
     ensures { IfOk result (λ bytes. bytes.items ≡ denied_reply why) }
 {
     match why {
-        Denied::NotFound => fault_reply(
-            alloc,
-            404,
-            "ResourceNotFound",
-            "The entity is not there.",
-        ),
+        Denied::NotFound => fault_reply(alloc, 404, "ResourceNotFound", "The entity is not there."),
         Denied::Op(refused) => refused_reply(alloc, refused),
         Denied::Memory => memory_bytes(alloc),
     }
@@ -212,7 +204,12 @@ fn json_type(minimal: bool) -> &'static str
 }
 
 #[tactic(auto, unfolding(crate::specs::Replies::fault_reply))]
-pub(crate) fn fault_reply(alloc: Global, status: u16, code: &str, text: &str) -> Result<Vec<u8>, Memory>
+pub(crate) fn fault_reply(
+    alloc: Global,
+    status: u16,
+    code: &str,
+    text: &str,
+) -> Result<Vec<u8>, Memory>
     requires { IsStatusCode status }
     ensures { IfOk result (λ bytes. bytes.items ≡ fault_reply status code.now text.now) }
 {
@@ -274,11 +271,7 @@ fn head_text(
 }
 
 #[tactic(auto, unfolding(crate::specs::Replies::bodiless_reply))]
-fn bodiless_text(
-    alloc: Global,
-    status: u16,
-    headers: &[(&str, &str)],
-) -> Result<String, AllocError>
+fn bodiless_text(alloc: Global, status: u16, headers: &[(&str, &str)]) -> Result<String, AllocError>
     requires { IsStatusCode status }
     ensures { IfOk result (λ text. string_bytes text
         ≡ bodiless_reply status (map (λ header. (header.0.now, header.1.now)) headers.now)) }

@@ -210,11 +210,7 @@ fn past_quote(text: &[u8]) -> Option<&[u8]>
     ensures { option_copied result ≡ past_quote text.now }
 {
     let (first, later) = text.split_first()?;
-    if *first == b'\'' {
-        Some(later)
-    } else {
-        None
-    }
+    if *first == b'\'' { Some(later) } else { None }
 }
 
 /// The text without the spaces at its front.

@@ -1,6 +1,9 @@
 ghost use Rattle.std.specs.Prelude.{None};
 ghost use Rattle.tab_outside.specs.Sides.{nothing_beside};
 
+mod conversations;
+mod limits;
+
 use super::run;
 use std::alloc::{AllocError, Global};
 use std::process::Abort;

@@ -1,4 +1,3 @@
-use Rattle.std.proofs.Common.{◌∙◌}
 use Rattle.std.proofs.lemmas.Result.{IfOk-weaker}
 use Rattle.tab_service.proofs.DecisionLaws.{all_behind, decides, decides_nothing}
 use Rattle.tab_service.proofs.decisions.decide.Goals as goal
