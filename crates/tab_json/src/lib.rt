@@ -1,4 +1,4 @@
-//! JSON texts of entities, of pages of them and of faults, in the forms of OData.
+//! JSON both ways, in the forms of OData: what bodies give, and the texts of entities, pages, tables and faults.
 #![tactic(auto)]
 
 mod bodies;
