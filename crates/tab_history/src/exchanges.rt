@@ -13,9 +13,14 @@ pub enum Ask {
         rk: KeyText,
     },
     /// One page of a table's rows.
-    Page { name: TableName, options: Options },
+    Page {
+        name: TableName,
+        options: Options,
+    },
     /// A change of rows.
-    Change { group: Group },
+    Change {
+        group: Group,
+    },
 }
 
 /// What the store answers.
