@@ -1,6 +1,6 @@
 -- What a message comes to: a request to the store, a refusal, or nothing that is served. A message is a head of HTTP/1.1
 -- (RFC 9112) in the grammar of `httparse`, and a body.
-use Rattle.std.specs.Prelude.{◌≡◌, ℕ, ◌⊎◌, List, [], ◌∷◌, length, Bool, false, not, ◌&&◌, ◌||◌, ◌==◌, Option, Some, None, option_and_then, Result, Ok, Err, if◌then◌else◌, codes, decimal, bytes_eq}
+use Rattle.std.specs.Prelude.{◌≡◌, ℕ, ◌⊎◌, List, [], ◌∷◌, length, Bool, false, not, ◌&&◌, ◌||◌, ◌==◌, Option, Some, None, option_and_then, Result, Ok, Err, if◌then◌else◌, codes, decimal, bytes_eq, nat_le}
 use Rattle.std.specs.List.{list_all, list_any}
 use Rattle.httparse.specs.Grammar.{RequestHead}
 use Rattle.tab_keys.specs.KeyTexts.{units_of, key_refusal}
@@ -133,9 +133,13 @@ has_its_length (header ∷ headers) body =
 unfoldable pub is_plain_read : List Header → List ℕ → Bool
 is_plain_read headers body = list_all is_wish headers && (length body == 0)
 
--- wishes and the length of the body
+-- the longest body that is served, in bytes
+abbrev pub longest_body : ℕ
+longest_body = 4194304
+
+-- wishes and the length of the body, which is not too long
 unfoldable pub is_plain_insert : List Header → List ℕ → Bool
-is_plain_insert headers body = list_all is_insert_header headers && has_its_length headers body
+is_plain_insert headers body = list_all is_insert_header headers && has_its_length headers body && nat_le (length body) longest_body
 
 abbrev pub answered : Result Request Refusal → Option Decided
 answered (Ok request) = Some (Go request)

@@ -21,6 +21,9 @@ use tab_page::{Options, Select};
 /// The most rows of a page.
 const MOST_ROWS: u16 = 1000;
 
+/// The longest body that is served, in bytes.
+const LONGEST_BODY: usize = 4_194_304;
+
 /// What a message comes to.
 #[derive(Debug, Drop)]
 pub enum Decided {
@@ -239,12 +242,12 @@ fn is_plain_read(headers: &[Header], body: &[u8]) -> bool
     are_wishes(headers) && body.is_empty()
 }
 
-/// Whether an insert has nothing but wishes and the length of its body.
+/// Whether an insert has nothing but wishes and the length of its body, which is not too long.
 #[tactic(auto, unfolding(crate::specs::Decisions::is_plain_insert))]
 fn is_plain_insert(headers: &[Header], body: &[u8]) -> bool
     ensures { result ≡ is_plain_insert headers.now body.now }
 {
-    are_insert_headers(headers) && has_its_length(headers, body)
+    are_insert_headers(headers) && has_its_length(headers, body) && body.len() <= LONGEST_BODY
 }
 
 fn are_wishes(headers: &[Header]) -> bool

@@ -199,34 +199,6 @@ fn runs_end_as_they_should(rt: HostRuntime) -> Result<(), Fail> {
             output: ["", "", ""],
             ..STORED
         },
-        // the message of the second event does not come
-        Case {
-            read_fails: 32,
-            status: 3,
-            done: 1,
-            entries: 1,
-            output: ["ok\n", "read fault\n", ""],
-            ..STORED
-        },
-        // the length of the first reply is not taken
-        Case {
-            write_fails: 3,
-            status: 4,
-            done: 1,
-            entries: 3,
-            output: ["ok\n", "reply ", ""],
-            ..STORED
-        },
-        // the last line is not taken
-        Case {
-            input: [NOW, "bogus\n", QUERY, "end\n"],
-            write_fails: 2,
-            status: 2,
-            done: 1,
-            entries: 1,
-            output: ["ok\n", "", ""],
-            ..STORED
-        },
         Case {
             words: ["dance", "shop", "-"],
             status: 1,
