@@ -2,6 +2,7 @@ ghost use Rattle.std.specs.Prelude.{None};
 ghost use Rattle.tab_outside.specs.Sides.{nothing_beside};
 
 mod conversations;
+mod copies;
 mod limits;
 
 use super::run;
