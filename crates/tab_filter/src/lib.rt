@@ -1,0 +1,18 @@
+//! The filter language of queries: its trees, their truth on a row, and the window of keys outside of which no row
+//! can match.
+#![tactic(auto)]
+
+mod literals;
+mod parsing;
+mod parts;
+mod stops;
+#[cfg(test)]
+mod tests;
+mod trees;
+mod truth;
+mod window;
+mod words;
+
+pub use parsing::{FilterRefused, parse};
+pub use trees::{Comparison, Filter, Operator};
+pub use window::{Window, matches_within_window, window_reaches_its_keys, window_starts_low};

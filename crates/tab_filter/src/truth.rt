@@ -1,0 +1,141 @@
+ghost use Rattle.std.specs.Prelude.{◌≡◌, codes, bytes_eq};
+ghost use Rattle.tab_edm.specs.declared.values.Value.TheVariants.{Text, Int64};
+ghost use Rattle.tab_keys.specs.Order.{text_cmp};
+ghost use Rattle.tab_filter.specs.Trees.{tree_of};
+ghost use Rattle.tab_filter.specs.Truth.{FilteredRow, operator_holds, value_holds, is_partition_key, is_row_key, is_timestamp, comparison_holds, truth};
+
+use crate::trees::Node;
+use crate::{Comparison, Filter, Operator};
+use std::cmp::Ordering;
+use tab_edm::{Entity, Value};
+use tab_keys::KeyText;
+
+impl Filter {
+    /// Whether the row with these keys, this tick and this entity matches.
+    pub fn matches(&self, pk: &KeyText, rk: &KeyText, tick: u64, entity: &Entity) -> bool
+        ensures { result ≡ truth (record { pk = pk.now; rk = rk.now; tick = tick; properties = entity.now.properties }) self.now }
+    {
+        node_holds(self.root(), pk, rk, tick, entity)
+    }
+}
+
+fn node_holds(node: &Node, pk: &KeyText, rk: &KeyText, tick: u64, entity: &Entity) -> bool
+    ensures { result ≡ truth (record { pk = pk.now; rk = rk.now; tick = tick; properties = entity.now.properties }) (tree_of node.now) }
+{
+    match node {
+        Node::Compare(comparison) => comparison_holds(comparison, pk, rk, tick, entity),
+        Node::Not(inner) => !node_holds(inner, pk, rk, tick, entity),
+        Node::And(first, second) => {
+            node_holds(first, pk, rk, tick, entity) && node_holds(second, pk, rk, tick, entity)
+        }
+        Node::Or(first, second) => {
+            node_holds(first, pk, rk, tick, entity) || node_holds(second, pk, rk, tick, entity)
+        }
+    }
+}
+
+#[tactic(auto, unfolding(crate::specs::Truth::comparison_holds))]
+fn comparison_holds(
+    comparison: &Comparison,
+    pk: &KeyText,
+    rk: &KeyText,
+    tick: u64,
+    entity: &Entity,
+) -> bool
+    ensures { result ≡ comparison_holds (record { pk = pk.now; rk = rk.now; tick = tick; properties = entity.now.properties }) comparison.now }
+{
+    let name = comparison.name.as_str();
+    if is_partition_key(name) {
+        text_holds(pk.as_str(), comparison.operator, &comparison.value)
+    } else if is_row_key(name) {
+        text_holds(rk.as_str(), comparison.operator, &comparison.value)
+    } else if is_timestamp(name) {
+        value_holds(&Value::Moment(tick), comparison.operator, &comparison.value)
+    } else {
+        match entity.get(name) {
+            Some(value) => value_holds(value, comparison.operator, &comparison.value),
+            None => false,
+        }
+    }
+}
+
+#[tactic(auto, unfolding(crate::specs::Truth::is_partition_key))]
+pub fn is_partition_key(name: &str) -> bool
+    ensures { result ≡ is_partition_key name.now }
+{
+    name == "PartitionKey"
+}
+
+#[tactic(auto, unfolding(crate::specs::Truth::is_row_key))]
+pub fn is_row_key(name: &str) -> bool
+    ensures { result ≡ is_row_key name.now }
+{
+    name == "RowKey"
+}
+
+#[tactic(auto, unfolding(crate::specs::Truth::is_timestamp))]
+fn is_timestamp(name: &str) -> bool
+    ensures { result ≡ is_timestamp name.now }
+{
+    name == "Timestamp"
+}
+
+/// Whether a property with this value stands to the literal as the operator says.
+fn value_holds(value: &Value, operator: Operator, literal: &Value) -> bool
+    ensures { result ≡ value_holds value.now operator literal.now }
+{
+    match (value, literal) {
+        (Value::Text(text), literal) => text_holds(text.as_str(), operator, literal),
+        (Value::Flag(flag), Value::Flag(other)) => operator_holds(operator, flag.cmp(other)),
+        (Value::Int32(number), literal) => number_holds(*number as i64, operator, literal),
+        (Value::Int64(number), literal) => number_holds(*number, operator, literal),
+        (Value::Moment(tick), Value::Moment(other)) => operator_holds(operator, tick.cmp(other)),
+        (Value::Guid(guid), Value::Guid(other)) => {
+            operator_holds(operator, guid.as_slice().cmp(other.as_slice()))
+        }
+        (Value::Bytes(bytes), Value::Bytes(other)) => {
+            operator_holds(operator, bytes.as_slice().cmp(other.as_slice()))
+        }
+        _ => false,
+    }
+}
+
+fn text_holds(text: &str, operator: Operator, literal: &Value) -> bool
+    ensures { result ≡ value_holds (Text text.now) operator literal.now }
+{
+    match literal {
+        Value::Text(other) => operator_holds(operator, compare_units(text, other.as_str())),
+        _ => false,
+    }
+}
+
+/// Numbers of both widths are one kind.
+fn number_holds(number: i64, operator: Operator, literal: &Value) -> bool
+    ensures { result ≡ value_holds (Int64 number) operator literal.now }
+{
+    match literal {
+        Value::Int32(other) => operator_holds(operator, number.cmp(&(*other as i64))),
+        Value::Int64(other) => operator_holds(operator, number.cmp(other)),
+        _ => false,
+    }
+}
+
+/// The order of two texts by their UTF-16 code units.
+pub fn compare_units(a: &str, b: &str) -> Ordering
+    ensures { result ≡ text_cmp a.now b.now }
+{
+    a.encode_utf16().cmp(b.encode_utf16())
+}
+
+pub fn operator_holds(operator: Operator, order: Ordering) -> bool
+    ensures { result ≡ operator_holds operator order }
+{
+    match operator {
+        Operator::Equal => order.is_eq(),
+        Operator::NotEqual => order.is_ne(),
+        Operator::Greater => order.is_gt(),
+        Operator::GreaterOrEqual => order.is_ge(),
+        Operator::Less => order.is_lt(),
+        Operator::LessOrEqual => order.is_le(),
+    }
+}
