@@ -11,12 +11,12 @@ use Rattle.tab_keys.specs.TotalOrders.{key_cmp_total}
 use Rattle.tab_edm.specs.Entities.{EntityView}
 use Rattle.tab_edm.specs.declared.TheConstants.{GREATEST}
 use Rattle.tab_rows.specs.Rows.{RowView, row_at, with_row}
-use Rattle.tab_history.specs.Groups.{ItemView, item_key}
+use Rattle.tab_ops.specs.Groups.{ItemView, item_key}
 use Rattle.tab_history.specs.World.{Floors, floor_of, raised, MayHaveTick, IsNextTick}
-use Rattle.tab_history.specs.Changes.{group_outcome}
+use Rattle.tab_ops.specs.Changes.{group_outcome}
 use Rattle.tab_history.specs.Legality.{table_for}
-use Rattle.tab_history.specs.declared.groups.Op.TheVariants.{Insert}
-use Rattle.tab_history.specs.declared.groups.OpRefused.TheVariants.{AlreadyThere}
+use Rattle.tab_ops.specs.declared.ops.Op.TheVariants.{Insert}
+use Rattle.tab_ops.specs.declared.groups.OpRefused.TheVariants.{AlreadyThere}
 
 pub same_key-refl : (key : Key) → same_key key key ≡ true
 same_key-refl key = rw (tied_itself key_cmp_total key) refl

@@ -5,15 +5,13 @@ use Rattle.tab_keys.specs.Order.{bound_lt}
 use Rattle.tab_keys.specs.declared.bounds.Bound.{Bound}
 use Rattle.tab_keys.specs.declared.bounds.Bound.TheVariants.{At, End}
 use Rattle.tab_rows.specs.Rows.{RowView, row_at}
-use Rattle.tab_history.specs.Groups.{ItemView}
 use Rattle.tab_history.specs.World.{World, table_of, raised, MayHaveTick}
-use Rattle.tab_history.specs.Changes.{group_outcome, group_keys}
+use Rattle.tab_ops.specs.Changes.{group_outcome, group_keys}
 use Rattle.tab_page.specs.Pages.{page_of}
-use Rattle.tab_history.specs.declared.groups.OpRefused.{OpRefused}
 use Rattle.tab_history.specs.declared.entries.Entry.{Entry}
 use Rattle.tab_history.specs.declared.entries.Entry.TheVariants.{Bounds, Resolve, Get, Page, Change, Denied}
 use Rattle.tab_history.specs.declared.entries.Denied.{Denied as Why}
-use Rattle.tab_history.specs.declared.entries.Denied.TheVariants.{NotFound, Op, Memory}
+use Rattle.tab_history.specs.declared.entries.Denied.TheVariants.{NotFound, Op, TimeSpent, Memory}
 use Rattle.tab_history.specs.declared.entries.Doubt.{Doubt}
 use Rattle.tab_history.specs.declared.entries.Doubt.TheVariants.{Change as Changed}
 
@@ -86,6 +84,7 @@ AreBounds (bound ∷ bounds) =
 
 -- the reasons for which a request may be denied whatever the world is
 abbrev pub IsDenial : Why → Type 0
+IsDenial TimeSpent = ⊤
 IsDenial Memory = ⊤
 IsDenial NotFound = ⊥
 IsDenial (Op refusal) = ⊥

@@ -1,4 +1,2 @@
-pub mod Groups
 pub mod World
-pub mod Changes
 pub mod Legality

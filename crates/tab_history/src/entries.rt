@@ -1,9 +1,9 @@
 ghost use Rattle.std.specs.Prelude.{◌≡◌, [], ◌∷◌, ◌++◌, OnOk, OnErr};
 
-use crate::{Group, OpRefused};
 use std::alloc::Global;
 use std::marker::Model;
 use tab_keys::{Bound, KeyText, TableName};
+use tab_ops::{Group, OpRefused};
 use tab_page::{Options, Page};
 use tab_rows::Row;
 
@@ -14,6 +14,8 @@ pub enum Denied {
     NotFound,
     /// An operation of its group was refused.
     Op(OpRefused),
+    /// No moment is left for the tick of a change.
+    TimeSpent,
     /// No memory was found.
     Memory,
 }

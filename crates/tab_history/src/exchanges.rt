@@ -1,5 +1,6 @@
-use crate::{Denied, Group};
+use crate::Denied;
 use tab_keys::{KeyText, TableName};
+use tab_ops::Group;
 use tab_page::{Options, Page};
 use tab_rows::Row;
 

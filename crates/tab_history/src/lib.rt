@@ -4,8 +4,6 @@
 
 mod entries;
 mod exchanges;
-mod groups;
 
 pub use entries::{Bounds, Denied, Doubt, Entry, History};
 pub use exchanges::{Ask, Reply};
-pub use groups::{Group, Item, Op, OpRefused};

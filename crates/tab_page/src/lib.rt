@@ -1,8 +1,15 @@
-//! Queries and their pages: what a query asks for, which rows a page has, and where the next one begins.
+//! Queries and their pages: what a query asks for and how its options are read, which rows a page has, and where the
+//! next one begins.
 #![tactic(auto)]
 
 mod pages;
+mod queries;
+mod rule;
 mod selects;
+mod tokens;
 
 pub use pages::{Options, Page, PageRows};
+pub use queries::OptionRefused;
+pub use rule::{page, start_key};
 pub use selects::{Names, Select};
+pub use tokens::{Token, TokenRefused};

@@ -3,12 +3,15 @@ ghost use Rattle.std.specs.Prelude.{◌≡◌, IfOk};
 use crate::Select;
 use std::alloc::Global;
 use std::marker::Model;
+use tab_filter::Filter;
 use tab_keys::{Bound, KeyText, Memory};
 use tab_rows::Row;
 
-/// What a query asks for: which properties, how many rows at the most, and where the page begins.
+/// What a query asks for: which rows, which of their properties, how many rows at the most, and where the page begins.
 #[derive(Debug, Drop)]
 pub struct Options {
+    /// The filter that its rows pass; without one all do.
+    pub filter: Option<Filter>,
     pub select: Select,
     pub top: u16,
     /// The partition key and the row key at which the page begins, where that is not the table's beginning.
@@ -20,6 +23,7 @@ impl Options {
         ensures { IfOk result (λ copy. copy ≡ self.now) }
     {
         Ok(Options {
+            filter: copied_filter(alloc, &self.filter)?,
             select: self.select.try_copy(alloc)?,
             top: self.top,
             start: copied_place(alloc, &self.start)?,
@@ -86,6 +90,15 @@ impl Page {
             next: copied_place(alloc, &self.next)?,
             end: self.end.try_copy(alloc)?,
         })
+    }
+}
+
+fn copied_filter(alloc: Global, filter: &Option<Filter>) -> Result<Option<Filter>, Memory>
+    ensures { IfOk result (λ copy. copy ≡ filter.now) }
+{
+    match filter {
+        None => Ok(None),
+        Some(filter) => Ok(Some(filter.try_copy(alloc)?)),
     }
 }
 
