@@ -91,9 +91,13 @@ pub struct History {
 
 impl Model for History {
     ghost use Rattle.std.specs.Prelude.{List, vec_items};
+    ghost use Rattle.std.specs.Coded.{coded_list};
     ghost use Rattle.tab_history.specs.declared.entries.Entry.{Entry};
+    ghost use Rattle.tab_history.specs.contracts.entries.Entry as entry;
 
     ghost Value = { List Entry };
+
+    ghost coded = { coded_list entry.the_row.coded };
 
     ghost view = { λ history. history.entries.items };
 }
