@@ -1,3 +1,4 @@
+pub mod ConditionLemmas
 pub mod DecisionLaws
 mod EntityLemmas
 mod QuoteLemmas

@@ -1,5 +1,7 @@
 pub mod Targets
 pub mod Preferences
-pub mod Decisions
 pub mod Replies
 pub mod Refusals
+pub mod Conditions
+pub mod Requests
+pub mod Decisions

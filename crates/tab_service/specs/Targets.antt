@@ -1,10 +1,19 @@
 -- What the targets of requests name: a path `/ACCOUNT/` and one segment, which is percent-encoded (RFC 3986, section 2.1).
-use Rattle.std.specs.Prelude.{ℕ, List, [], ◌∷◌, length, take, drop, Bool, ◌||◌, ◌==◌, Option, Some, None, option_map, option_and_then, if◌then◌else◌, codes, bytes_eq}
-use Rattle.std.specs.List.{list_any}
+use Rattle.std.specs.Prelude.{ℕ, ◌+◌, List, [], ◌∷◌, length, take, drop, Bool, ◌||◌, ◌==◌, Option, Some, None, option_map, option_and_then, if◌then◌else◌, codes, bytes_eq}
+use Rattle.std.specs.List.{list_any, position_or_len}
 use Rattle.std.specs.Str.{is_utf8}
 use Rattle.percent_encoding.specs.Percent.{percent_decode}
 use Rattle.tab_service.specs.declared.targets.Resource.{Resource}
 use Rattle.tab_service.specs.declared.targets.Resource.TheVariants.{Rows, Row}
+
+-- ---- paths and queries
+
+-- the path of a target, up to its first `?`, and the query behind that: 63 is the question mark
+unfoldable pub path_of : List ℕ → List ℕ
+path_of target = take (position_or_len (λ b. b == 63) target) target
+
+unfoldable pub query_of : List ℕ → List ℕ
+query_of target = drop (position_or_len (λ b. b == 63) target + 1) target
 
 -- what is behind this front of a text, if it begins so
 unfoldable pub behind : List ℕ → List ℕ → Option (List ℕ)
@@ -12,9 +21,9 @@ behind front text = if bytes_eq (take (length front) text) front then Some (drop
 
 -- ---- segments
 
--- the byte cannot stand in a segment of a path that has no query: `/` or `?`
+-- the byte cannot stand in a segment: `/`
 abbrev pub ends_segment : ℕ → Bool
-ends_segment b = b == 47 || b == 63
+ends_segment b = b == 47
 
 -- bytes that are a text
 unfoldable pub text_of : List ℕ → Option (List ℕ)
@@ -94,6 +103,6 @@ resource_behind rest = if bytes_eq rest [] || bytes_eq rest (codes "()") then So
 unfoldable pub resource_of : List ℕ → Option Resource
 resource_of segment = option_and_then resource_behind (behind (codes "Goods") segment)
 
--- what a target names
+-- what a path names
 unfoldable pub resource_in : List ℕ → List ℕ → Option Resource
-resource_in account target = option_and_then resource_of (segment_in account target)
+resource_in account path = option_and_then resource_of (segment_in account path)

@@ -1,17 +1,19 @@
-ghost use Rattle.std.specs.Prelude.{◌≡◌, ◌≤◌, ◌∷◌, ◌++◌, [], length, map, flat_map, codes, decimal, string_bytes, IfOk, OnOk};
+ghost use Rattle.std.specs.Prelude.{◌≡◌, ◌≤◌, ◌∷◌, ◌++◌, [], Some, length, map, flat_map, codes, decimal, string_bytes, IfOk, OnOk};
 ghost use Rattle.std.specs.Option.{option_copied};
 ghost use Rattle.http.specs.StatusCode.{IsStatusCode};
 ghost use Rattle.tab_edm.specs.Moments.{text_of_etag};
-ghost use Rattle.tab_service.specs.Replies.{Suits, header_line, status_line, head_text, version_header, reply_with_body, fault_reply, refused_reply, denied_reply, json_type, page_reply, row_reply, applied, created_reply, bodiless_reply, insert_reply, change_reply, reply_text};
+ghost use Rattle.tab_service.specs.Replies.{Suits, header_line, status_line, head_text, version_header, reply_with_body, fault_reply, refused_reply, denied_reply, json_type, continuation, page_reply, row_reply, applied, created_reply, bodiless_reply, insert_reply, written_reply, change_reply, reply_text, IsTimely, IsTimelyDenial, not_there};
 
+use crate::refusals::around;
 use crate::{Form, Prefer, Request};
 use http::StatusCode;
 use std::alloc::{AllocError, Global};
 use tab_edm::{GREATEST, etag_text};
-use tab_history::{Ask, Denied, Group, Op, OpRefused, Reply};
+use tab_history::{Ask, Denied, Reply};
 use tab_json::{Version, write_fault, write_page, write_version};
-use tab_keys::{Memory, TableName};
-use tab_page::Page;
+use tab_keys::{KeyText, Memory, TableName};
+use tab_ops::{Group, Op, OpRefused};
+use tab_page::{Page, Token};
 use tab_rows::Row;
 
 /// The reply to any request for which no memory was found.
@@ -60,11 +62,46 @@ pub(crate) fn memory_bytes(alloc: Global) -> Result<Vec<u8>, Memory>
 
 #[tactic(auto, unfolding(crate::specs::Replies::page_reply))]
 fn page_reply(alloc: Global, form: &Form, name: &TableName, page: &Page) -> Result<Vec<u8>, Memory>
-    ensures { IfOk result (λ bytes. bytes.items ≡ page_reply form.now.account name.now form.now.json page.now.rows) }
+    ensures { IfOk result (λ bytes. bytes.items ≡ page_reply form.now.account name.now form.now.json page.now) }
 {
     let body = write_page(alloc, form.account.as_str(), name, page, &form.json)?;
     let kind = json_type(form.json.minimal);
-    reply_with_body(alloc, 200, kind, &[], body.as_str())
+    match &page.next {
+        None => reply_with_body(alloc, 200, kind, &[], body.as_str()),
+        Some((pk, rk)) => continued_reply(alloc, kind, pk, rk, body.as_str()),
+    }
+}
+
+/// The reply with a page behind which another begins at these keys.
+fn continued_reply(
+    alloc: Global,
+    kind: &str,
+    pk: &KeyText,
+    rk: &KeyText,
+    body: &str,
+) -> Result<Vec<u8>, Memory>
+    ensures { IfOk result (λ bytes. bytes.items ≡ reply_with_body 200 kind.now (continuation (Some (pk.now, rk.now))) body.now) }
+{
+    let pk = Token::text(alloc, pk)?;
+    let rk = Token::text(alloc, rk)?;
+    continued_text(alloc, kind, pk.as_str(), rk.as_str(), body)
+}
+
+fn continued_text<'a>(
+    alloc: Global,
+    kind: &str,
+    pk: &'a str,
+    rk: &'a str,
+    body: &str,
+) -> Result<Vec<u8>, Memory>
+    ensures { IfOk result (λ bytes. bytes.items ≡ reply_with_body 200 kind.now
+        ((codes "x-ms-continuation-NextPartitionKey", pk.now) ∷ (codes "x-ms-continuation-NextRowKey", rk.now) ∷ []) body.now) }
+{
+    let headers = [
+        ("x-ms-continuation-NextPartitionKey", pk),
+        ("x-ms-continuation-NextRowKey", rk),
+    ];
+    reply_with_body(alloc, 200, kind, &headers, body)
 }
 
 #[tactic(auto, unfolding(crate::specs::Replies::row_reply))]
@@ -85,9 +122,33 @@ fn change_reply(alloc: Global, form: &Form, group: &Group, tick: u64) -> Result<
     ensures { IfOk result (λ bytes. bytes.items ≡ change_reply form.now group.now tick) }
 {
     let item = &group.items()[0];
-    let Op::Insert(entity) = &item.op;
-    let version = Version::new(&item.pk, &item.rk, entity, tick);
-    insert_reply(alloc, form, &item.name, &version)
+    match &item.op {
+        Op::Insert(entity) => {
+            let version = Version::new(&item.pk, &item.rk, entity, tick);
+            insert_reply(alloc, form, &item.name, &version)
+        }
+        Op::Update(_, _) | Op::Replace(_) | Op::Merge(_, _) | Op::MergeIn(_) => {
+            written_reply(alloc, tick)
+        }
+        Op::Delete(_) => bodiless_bytes(alloc, &[]),
+    }
+}
+
+/// The reply to a write with the row's version.
+#[tactic(auto, unfolding(crate::specs::Replies::written_reply))]
+fn written_reply(alloc: Global, tick: u64) -> Result<Vec<u8>, Memory>
+    requires { tick ≤ GREATEST }
+    ensures { IfOk result (λ bytes. bytes.items ≡ written_reply tick) }
+{
+    let etag = etag_of(alloc, tick)?;
+    bodiless_bytes(alloc, &[("ETag", etag.as_str())])
+}
+
+fn bodiless_bytes(alloc: Global, headers: &[(&str, &str)]) -> Result<Vec<u8>, Memory>
+    ensures { IfOk result (λ bytes. bytes.items ≡ bodiless_reply 204 (map (λ header. (header.0.now, header.1.now)) headers.now)) }
+{
+    let head = bodiless_text(alloc, 204, headers).map_err(|_| Memory)?;
+    Ok(head.into_bytes())
 }
 
 fn insert_reply(
@@ -147,42 +208,52 @@ fn version_reply(alloc: Global, version: &Version) -> Result<Vec<u8>, Memory>
         ≡ bodiless_reply 204 ((codes "ETag", text_of_etag version.now.tick) ∷ (codes "Preference-Applied", codes "return-no-content") ∷ [])) }
 {
     let etag = etag(alloc, version)?;
-    match version_bytes(alloc, etag.as_str()) {
-        Ok(bytes) => Ok(bytes),
-        Err(_) => Err(Memory),
-    }
+    version_bytes(alloc, etag.as_str())
 }
 
-fn version_bytes(alloc: Global, etag: &str) -> Result<Vec<u8>, AllocError>
+fn version_bytes(alloc: Global, etag: &str) -> Result<Vec<u8>, Memory>
     ensures { IfOk result (λ bytes. bytes.items
         ≡ bodiless_reply 204 ((codes "ETag", etag.now) ∷ (codes "Preference-Applied", codes "return-no-content") ∷ [])) }
 {
-    let head = bodiless_text(
-        alloc,
-        204,
-        &[("ETag", etag), ("Preference-Applied", "return-no-content")],
-    )?;
-    Ok(head.into_bytes())
+    let headers = [("ETag", etag), ("Preference-Applied", "return-no-content")];
+    bodiless_bytes(alloc, &headers)
 }
 
 fn etag(alloc: Global, version: &Version) -> Result<String, Memory>
     ensures { IfOk result (λ text. string_bytes text ≡ text_of_etag version.now.tick) }
 {
-    etag_text(alloc, version.tick()).map_err(|_| Memory)
+    etag_of(alloc, version.tick())
+}
+
+fn etag_of(alloc: Global, tick: u64) -> Result<String, Memory>
+    requires { tick ≤ GREATEST }
+    ensures { IfOk result (λ text. string_bytes text ≡ text_of_etag tick) }
+{
+    etag_text(alloc, tick).map_err(|_| Memory)
 }
 
 #[tactic(auto, unfolding(crate::specs::Replies::denied_reply))]
 fn denied_reply(alloc: Global, why: Denied) -> Result<Vec<u8>, Memory>
+    requires { IsTimelyDenial why }
     ensures { IfOk result (λ bytes. bytes.items ≡ denied_reply why) }
 {
     match why {
-        Denied::NotFound => fault_reply(alloc, 404, "ResourceNotFound", "The entity is not there."),
+        Denied::NotFound => not_there(alloc),
         Denied::Op(refused) => refused_reply(alloc, refused),
+        Denied::TimeSpent => fault_reply(alloc, 500, "TimeSpent", "The last moment is reached."),
         Denied::Memory => memory_bytes(alloc),
     }
 }
 
+fn not_there(alloc: Global) -> Result<Vec<u8>, Memory>
+    ensures { IfOk result (λ bytes. bytes.items ≡ not_there) }
+{
+    fault_reply(alloc, 404, "ResourceNotFound", "The entity is not there.")
+}
+
+#[tactic(auto, unfolding(crate::specs::Replies::refused_reply))]
 fn refused_reply(alloc: Global, refused: OpRefused) -> Result<Vec<u8>, Memory>
+    requires { IsTimely refused }
     ensures { IfOk result (λ bytes. bytes.items ≡ refused_reply refused) }
 {
     match refused {
@@ -192,8 +263,33 @@ fn refused_reply(alloc: Global, refused: OpRefused) -> Result<Vec<u8>, Memory>
             "EntityAlreadyExists",
             "The entity is there already.",
         ),
+        OpRefused::NotThere { .. } => not_there(alloc),
+        OpRefused::Condition { tick, .. } => condition_reply(alloc, tick),
+        OpRefused::TooMany { .. } => fault_reply(
+            alloc,
+            400,
+            "TooManyProperties",
+            "An entity has at most 252 properties.",
+        ),
+        OpRefused::TooLarge { .. } => fault_reply(
+            alloc,
+            400,
+            "EntityTooLarge",
+            "An entity has at most 1048576 bytes.",
+        ),
         OpRefused::Memory => memory_bytes(alloc),
     }
+}
+
+/// The reply to an operation that wants another version than the kept one.
+fn condition_reply(alloc: Global, tick: u64) -> Result<Vec<u8>, Memory>
+    requires { tick ≤ GREATEST }
+    ensures { IfOk result (λ bytes. bytes.items
+        ≡ fault_reply 412 (codes "UpdateConditionNotSatisfied") (codes "The kept version is " ++ text_of_etag tick ++ codes ".")) }
+{
+    let etag = etag_of(alloc, tick)?;
+    let text = around(alloc, "The kept version is ", etag.as_str(), ".")?;
+    fault_reply(alloc, 412, "UpdateConditionNotSatisfied", text.as_str())
 }
 
 /// The type of a body with minimal metadata, or with none.

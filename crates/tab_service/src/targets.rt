@@ -1,7 +1,7 @@
 ghost use Rattle.std.specs.Prelude.{◌≡◌, IfOk, option_map, vec_items};
 ghost use Rattle.std.specs.List.{list_any};
 ghost use Rattle.std.specs.Option.{option_copied};
-ghost use Rattle.tab_service.specs.Targets.{behind, path_behind, ends_segment, one_segment, segment_in, decoded, text_of, quoted, doubled_quote, first_inside, past_quote, value_named, without_spaces, row_key_behind, keys_in, row_at, resource_behind, resource_of, resource_in};
+ghost use Rattle.tab_service.specs.Targets.{path_of, query_of, behind, path_behind, ends_segment, one_segment, segment_in, decoded, text_of, quoted, doubled_quote, first_inside, past_quote, value_named, without_spaces, row_key_behind, keys_in, row_at, resource_behind, resource_of, resource_in};
 
 use percent_encoding::{DecodeError, percent_decode};
 use std::alloc::Global;
@@ -17,26 +17,38 @@ pub enum Resource {
     Row(TextValue, TextValue),
 }
 
-/// The resource that a target names, if it is one of this account.
+/// The path of a target, and the query behind it.
+#[tactic(auto, unfolding(crate::specs::Targets::path_of, crate::specs::Targets::query_of))]
+pub(crate) fn split_target(target: &str) -> (&str, &str)
+    ensures path { result.0.now ≡ path_of target.now }
+    ensures query { result.1.now ≡ query_of target.now }
+{
+    match target.split_once('?') {
+        Some(parts) => parts,
+        None => (target, ""),
+    }
+}
+
+/// The resource that a path names, if it is one of this account.
 #[tactic(auto, unfolding(crate::specs::Targets::resource_in))]
 pub(crate) fn resource_in(
     alloc: Global,
     account: &str,
-    target: &str,
+    path: &str,
 ) -> Result<Option<Resource>, Memory>
-    ensures { IfOk result (λ found. found ≡ resource_in account.now target.now) }
+    ensures { IfOk result (λ found. found ≡ resource_in account.now path.now) }
 {
-    let Some(segment) = segment_in(alloc, account.as_bytes(), target.as_bytes())? else {
+    let Some(segment) = segment_in(alloc, account.as_bytes(), path.as_bytes())? else {
         return Ok(None);
     };
     resource_of(alloc, segment.as_str().as_bytes())
 }
 
 /// The one segment behind that of the account, decoded.
-fn segment_in(alloc: Global, account: &[u8], target: &[u8]) -> Result<Option<TextValue>, Memory>
-    ensures { IfOk result (λ found. found ≡ segment_in account.now target.now) }
+fn segment_in(alloc: Global, account: &[u8], path: &[u8]) -> Result<Option<TextValue>, Memory>
+    ensures { IfOk result (λ found. found ≡ segment_in account.now path.now) }
 {
-    match path_behind(account, target) {
+    match path_behind(account, path) {
         Some(segment) => one_segment(alloc, segment),
         None => Ok(None),
     }
@@ -60,11 +72,11 @@ fn one_segment(alloc: Global, segment: &[u8]) -> Result<Option<TextValue>, Memor
     decoded(alloc, segment)
 }
 
-/// Whether one of the bytes cannot stand in a segment.
+/// Whether one of the bytes ends a segment.
 fn ends_segment(segment: &[u8]) -> bool
     ensures { result ≡ list_any ends_segment segment.now }
 {
-    segment.iter().any(|b| *b == b'/' || *b == b'?')
+    segment.contains(&b'/')
 }
 
 /// The text that a segment decodes to.

@@ -1,6 +1,6 @@
 use Rattle.std.proofs.Common.{◌≡◌, length}
 use Rattle.tab_service.specs.Decisions.{has_its_length}
-use Rattle.tab_service.proofs.decisions.has_its_length.Given as goal
+use Rattle.tab_service.proofs.plain.has_its_length.Given as goal
 
 abbrev pub decreases-loop-first : goal.decreases-loop-first
 decreases-loop-first l = length l.left

@@ -1,0 +1,179 @@
+ghost use Rattle.std.specs.Prelude.{◌≡◌, IfOk, codes};
+ghost use Rattle.tab_service.specs.Requests.{form_of, page_request, row_request, path_key, row_keys, query_options, query_select, decided_page, decided_row};
+
+use crate::preferences::format_for;
+use crate::{Form, Prefer, Refusal, Request};
+use std::alloc::Global;
+use tab_edm::TextValue;
+use tab_history::Ask;
+use tab_http::Header;
+use tab_json::JsonForm;
+use tab_keys::{KeyRefused, KeyText, Memory, TableName};
+use tab_page::{OptionRefused, Options, Select};
+
+/// The request for a page, or why it is refused.
+#[tactic(auto, unfolding(crate::specs::Requests::decided_page))]
+pub(crate) fn decided_page(
+    alloc: Global,
+    account: &str,
+    query: &str,
+    headers: &[Header],
+) -> Result<Result<Request, Refusal>, Memory>
+    ensures { IfOk result (λ decided. decided ≡ decided_page account.now query.now headers.now) }
+{
+    let minimal = match format_for(alloc, headers)? {
+        Ok(minimal) => minimal,
+        Err(why) => return Ok(Err(why)),
+    };
+    match query_options(alloc, query)? {
+        Ok(options) => Ok(Ok(page_request(alloc, account, minimal, options)?)),
+        Err(why) => Ok(Err(why)),
+    }
+}
+
+/// The request for one row, or why it is refused.
+#[tactic(auto, unfolding(crate::specs::Requests::decided_row))]
+pub(crate) fn decided_row(
+    alloc: Global,
+    account: &str,
+    query: &str,
+    headers: &[Header],
+    pk: &str,
+    rk: &str,
+) -> Result<Result<Request, Refusal>, Memory>
+    ensures { IfOk result (λ decided. decided ≡ decided_row account.now query.now headers.now pk.now rk.now) }
+{
+    let keys = match row_keys(alloc, pk, rk)? {
+        Ok(keys) => keys,
+        Err(why) => return Ok(Err(why)),
+    };
+    let minimal = match format_for(alloc, headers)? {
+        Ok(minimal) => minimal,
+        Err(why) => return Ok(Err(why)),
+    };
+    match query_select(alloc, query)? {
+        Ok(select) => Ok(Ok(row_request(alloc, account, minimal, select, keys)?)),
+        Err(why) => Ok(Err(why)),
+    }
+}
+
+// ---- parts of requests
+
+/// The keys of a path.
+#[tactic(auto, unfolding(crate::specs::Requests::row_keys))]
+pub(crate) fn row_keys(
+    alloc: Global,
+    pk: &str,
+    rk: &str,
+) -> Result<Result<(KeyText, KeyText), Refusal>, Memory>
+    ensures { IfOk result (λ keys. keys ≡ row_keys pk.now rk.now) }
+{
+    let pk = match path_key(alloc, pk)? {
+        Ok(pk) => pk,
+        Err(why) => return Ok(Err(why)),
+    };
+    match path_key(alloc, rk)? {
+        Ok(rk) => Ok(Ok((pk, rk))),
+        Err(why) => Ok(Err(why)),
+    }
+}
+
+/// A key of a path.
+#[tactic(auto, unfolding(crate::specs::Requests::path_key))]
+fn path_key(alloc: Global, text: &str) -> Result<Result<KeyText, Refusal>, Memory>
+    ensures { IfOk result (λ key. key ≡ path_key text.now) }
+{
+    match KeyText::new(alloc, text) {
+        Ok(key) => Ok(Ok(key)),
+        Err(KeyRefused::Memory) => Err(Memory),
+        Err(why) => Ok(Err(Refusal::Key(why))),
+    }
+}
+
+/// The options of a query.
+#[tactic(auto, unfolding(crate::specs::Requests::query_options))]
+fn query_options(alloc: Global, query: &str) -> Result<Result<Options, Refusal>, Memory>
+    ensures { IfOk result (λ options. options ≡ query_options query.now) }
+{
+    match Options::read(alloc, query) {
+        Ok(options) => Ok(Ok(options)),
+        Err(OptionRefused::Memory) => Err(Memory),
+        Err(why) => Ok(Err(Refusal::Options(why))),
+    }
+}
+
+/// The properties that a query asks for.
+#[tactic(auto, unfolding(crate::specs::Requests::query_select))]
+fn query_select(alloc: Global, query: &str) -> Result<Result<Select, Refusal>, Memory>
+    ensures { IfOk result (λ select. select ≡ query_select query.now) }
+{
+    match Select::read(alloc, query) {
+        Ok(select) => Ok(Ok(select)),
+        Err(OptionRefused::Memory) => Err(Memory),
+        Err(why) => Ok(Err(Refusal::Options(why))),
+    }
+}
+
+// ---- requests
+
+fn page_request(
+    alloc: Global,
+    account: &str,
+    minimal: bool,
+    options: Options,
+) -> Result<Request, Memory>
+    ensures { IfOk result (λ request. request ≡ page_request account.now minimal options) }
+{
+    let name = goods(alloc)?;
+    let select = options.select.try_copy(alloc)?;
+    let form = form_of(alloc, account, minimal, select, Prefer::Unsaid)?;
+    Ok(Request {
+        ask: Ask::Page { name, options },
+        form,
+    })
+}
+
+fn row_request(
+    alloc: Global,
+    account: &str,
+    minimal: bool,
+    select: Select,
+    keys: (KeyText, KeyText),
+) -> Result<Request, Memory>
+    ensures { IfOk result (λ request. request ≡ row_request account.now minimal select keys) }
+{
+    let (pk, rk) = keys;
+    let name = goods(alloc)?;
+    let form = form_of(alloc, account, minimal, select, Prefer::Unsaid)?;
+    Ok(Request {
+        ask: Ask::Get { name, pk, rk },
+        form,
+    })
+}
+
+/// These properties, in this format.
+pub(crate) fn form_of(
+    alloc: Global,
+    account: &str,
+    minimal: bool,
+    select: Select,
+    prefer: Prefer,
+) -> Result<Form, Memory>
+    ensures { IfOk result (λ form. form ≡ form_of account.now minimal select prefer) }
+{
+    let Ok(account) = String::from_str(alloc, account) else {
+        return Err(Memory);
+    };
+    Ok(Form {
+        account: TextValue::new(account),
+        json: JsonForm { minimal, select },
+        prefer,
+    })
+}
+
+/// The name of the one table.
+pub(crate) fn goods(alloc: Global) -> Result<TableName, Memory>
+    ensures { IfOk result (λ name. name ≡ codes "Goods") }
+{
+    TableName::new(alloc, "Goods").map_err(|_| Memory)
+}
