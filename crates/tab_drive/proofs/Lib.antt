@@ -1,3 +1,4 @@
+mod RangeLemmas
 pub mod Decimals
 pub mod Events
 pub mod Exits

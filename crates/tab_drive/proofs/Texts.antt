@@ -10,7 +10,7 @@ use Rattle.tab_service.specs.declared.decisions.Decided.{Decided}
 use Rattle.tab_service.specs.declared.decisions.Decided.TheVariants.{Go, No}
 use Rattle.tab_service.proofs.DecisionLaws.{one_message_is_one_decision}
 use Rattle.tab_drive.specs.Schedule.{spelling}
-use Rattle.tab_drive.specs.Walk.{Walk, Exchange, Happens, Answers, Refuses, Takes, IsMemory, name_of, reply_of, reply_outcome, Follows, walk_after, bytes_of, entries_of, text_of, IsUnserved, IsOutOfForm}
+use Rattle.tab_drive.specs.Walk.{Walk, Exchange, Happens, Answers, Refuses, Takes, IsMemory, name_of, reply_of, reply_outcome, Follows, walk_after, bytes_of, entries_of, text_of, IsOutOfForm}
 use Rattle.tab_drive.specs.Sessions.{IsOutOfFormEvent}
 use Rattle.tab_drive.specs.declared.schedule.Scheduled.{Scheduled}
 use Rattle.tab_drive.specs.declared.schedule.Scheduled.TheVariants.{Now, Call}
@@ -175,19 +175,15 @@ one_text account walk xs ys f g bytes entries =
 
 -- ---- what is served is not refused
 
-in_form : (account message : List ℕ) (walk : Walk) (entries : List Entry) (text : List ℕ) → Answers account walk message entries text → IsOutOfForm account walk message → ⊥
-in_form account message walk entries text answers (inl none) =
+in_form : (account message : List ℕ) (walk : Walk) (entries : List Entry) (text : List ℕ) → Answers account walk message entries text → IsOutOfForm account message → ⊥
+in_form account message walk entries text answers none =
     go_or_none answers.request (one_message_is_one_decision account message (Some (Go answers.request)) None answers.reads none)
-in_form account message walk entries text answers (inr unserved) =
-    answers.served (subst (λ (r : Request). IsUnserved walk r.ask) (one_request account message unserved.0 answers.request unserved.1 answers.reads) unserved.2)
 
-refused_in_form : (account message : List ℕ) (walk : Walk) (entries : List Entry) (text : List ℕ) → Refuses account message entries text → IsOutOfForm account walk message → ⊥
-refused_in_form account message walk entries text refuses (inl none) =
+refused_in_form : (account message : List ℕ) (entries : List Entry) (text : List ℕ) → Refuses account message entries text → IsOutOfForm account message → ⊥
+refused_in_form account message entries text refuses none =
     no_or_none refuses.reply (one_message_is_one_decision account message (Some (No refuses.reply)) None refuses.reads none)
-refused_in_form account message walk entries text refuses (inr unserved) =
-    go_or_no unserved.0 refuses.reply (one_message_is_one_decision account message (Some (Go unserved.0)) (Some (No refuses.reply)) unserved.1 refuses.reads)
 
 pub served_in_form : (account : List ℕ) (walk : Walk) (event : Scheduled) (entries : List Entry) (text : List ℕ) → Happens account walk event entries text → IsOutOfFormEvent account walk event → ⊥
 served_in_form account walk (Now moment) entries text happens out = out
 served_in_form account walk (Call message) entries text (inl answers) out = in_form account message walk entries text answers out
-served_in_form account walk (Call message) entries text (inr refuses) out = refused_in_form account message walk entries text refuses out
+served_in_form account walk (Call message) entries text (inr refuses) out = refused_in_form account message entries text refuses out

@@ -57,3 +57,11 @@ stopped_number account walk traffic event session fits spent read written = (
   refused_number account walk traffic.left_before traffic.left event fits spent read,
   record { part = spelling event; are = inl (event, fits, refl); read = read; written = written; history = refl },
 )
+
+pub stopped_form : (account : List ℕ) (walk : Walk) (traffic : Traffic) (event : Scheduled) (old new : Session) → Fits event → IsOutOfFormEvent account walk event
+    → Consumes traffic.left_before traffic.left (spelling event) → traffic.taken ≡ traffic.taken_before → new.history.items ≡ old.history.items
+    → IfTold traffic.left_before (IsRefused account walk) × TurnedIdle IsOneAtMost traffic old new
+stopped_form account walk traffic event old new fits out read written history = (
+  refused_form account walk traffic.left_before traffic.left event fits out read,
+  record { part = spelling event; are = inl (event, fits, refl); read = read; written = written; history = history },
+)

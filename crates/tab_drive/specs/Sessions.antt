@@ -1,27 +1,27 @@
 -- What a session keeps of a walk, what a request comes to, and what one step does.
-use Rattle.std.specs.Prelude.{◌≡◌, ℕ, ◌+◌, ◌≤◌, max, List, [], ◌∷◌, ◌++◌, length, codes, Option, Some, None, Ok, Err, ⊤}
-use Rattle.std.specs.List.{AllByRecursion}
-use Rattle.tab_keys.specs.Order.{head_key}
+use Rattle.std.specs.Prelude.{◌≡◌, ℕ, ◌+◌, ◌<◌, ◌≤◌, ◌⊎◌, max, List, [], ◌∷◌, ◌++◌, length, codes, Option, Some, None, Ok, Err, ⊤}
+use Rattle.tab_keys.specs.declared.keys.Key.{Key}
 use Rattle.tab_keys.specs.declared.bounds.Bound.TheVariants.{At, End}
-use Rattle.tab_edm.specs.Entities.{EntityView}
-use Rattle.tab_rows.specs.Rows.{RowView, row_at, rows_from, with_row}
+use Rattle.tab_edm.specs.declared.TheConstants.{GREATEST}
+use Rattle.tab_rows.specs.Rows.{RowView, row_at}
+use Rattle.tab_page.specs.Pages.{page_below}
 use Rattle.tab_page.specs.declared.pages.Options.{Options}
-use Rattle.tab_history.specs.Groups.{ItemView, item_key}
+use Rattle.tab_ops.specs.Groups.{ItemView}
+use Rattle.tab_ops.specs.Changes.{group_outcome, applied, IsTimely}
 use Rattle.tab_history.specs.World.{IsNextTick}
 use Rattle.tab_history.specs.Legality.{Legal}
 use Rattle.tab_history.specs.declared.entries.Entry.{Entry}
 use Rattle.tab_history.specs.declared.entries.Entry.TheVariants.{Resolve, Get, Page, Change, Denied}
-use Rattle.tab_history.specs.declared.entries.Denied.TheVariants.{NotFound, Op, Memory}
-use Rattle.tab_history.specs.declared.groups.Op.TheVariants.{Insert}
-use Rattle.tab_history.specs.declared.groups.OpRefused.{OpRefused}
-use Rattle.tab_history.specs.declared.groups.OpRefused.TheVariants.{AlreadyThere}
+use Rattle.tab_history.specs.declared.entries.Denied.TheVariants.{NotFound, Op, TimeSpent, Memory}
+use Rattle.tab_ops.specs.declared.groups.OpRefused.{OpRefused}
+use Rattle.tab_ops.specs.declared.plans.Changes.{Changes}
 use Rattle.tab_history.specs.declared.exchanges.Ask.{Ask}
 use Rattle.tab_history.specs.declared.exchanges.Ask.TheVariants.{Get as Getting, Page as Listing, Change as Writing}
 use Rattle.tab_history.specs.declared.exchanges.Reply.{Reply}
 use Rattle.tab_history.specs.declared.exchanges.Reply.TheVariants.{Found, Listed, Changed, Denied as Refusal}
 use Rattle.tab_service.specs.declared.forms.Request.{Request}
 use Rattle.tab_service.specs.Replies.{reply_text}
-use Rattle.tab_drive.specs.Walk.{Walk, first_world, most_rows, name_of, Happens, reply_outcome, walk_after, IsOutOfForm}
+use Rattle.tab_drive.specs.Walk.{Walk, first_world, name_of, Happens, reply_outcome, walk_after, IsOutOfForm}
 use Rattle.tab_drive.specs.declared.schedule.Scheduled.{Scheduled}
 use Rattle.tab_drive.specs.declared.schedule.Scheduled.TheVariants.{Call}
 use Rattle.tab_drive.specs.declared.session.Session.{Session}
@@ -30,10 +30,8 @@ use Rattle.tab_drive.specs.declared.session.Session.{Session}
 abbrev pub goods : ℕ
 goods = 1
 
--- the walk's store has one table, no more rows than it may have, one number for all floors, and one range
+-- the walk's store has one table, one number for all floors, and one range
 pub record IsServing (walk : Walk) : Type 0 where
-  pub in_table : AllByRecursion (λ row. row.key.table ≡ goods) walk.past.world.rows
-  pub few : length walk.past.world.rows ≤ most_rows
   pub floors : IsNextTick walk.past.world.floors walk.next_tick
   pub names : walk.past.world.names ≡ first_world.names
   pub bounds : walk.past.bounds ≡ At 0 [] ∷ []
@@ -46,50 +44,66 @@ pub record Keeps (session : Session) (walk : Walk) : Type 0 where
   pub rows : session.rows.rows ≡ walk.past.world.rows
   pub serving : IsServing walk
 
--- the requests that are served: a point read, a query of all rows, and a group of one item, all of the one table
+-- the requests that are served: a point read, a page, and a group of one item, all of the one table
 abbrev pub IsServedAsk : Ask → Type 0
 IsServedAsk (Getting name pk rk) = name ≡ codes "Goods"
-IsServedAsk (Listing name options) = (name ≡ codes "Goods") × (options.top ≡ most_rows) × (options.start ≡ None)
+IsServedAsk (Listing name options) = name ≡ codes "Goods"
 IsServedAsk (Writing group) = (item : ItemView) × (group ≡ item ∷ []) × (item.name ≡ codes "Goods")
-
--- the item writes the row, at a key without one
-pub record Writes (rows : List RowView) (tick : ℕ) (group : List ItemView) (row : RowView) : Type 0 where
-  pub item : ItemView
-  pub alone : group ≡ item ∷ []
-  pub entity : item.op ≡ Insert row.entity
-  pub key : row.key ≡ item_key goods item
-  pub tick_is : row.tick ≡ tick
-  pub absent : row_at rows (item_key goods item) ≡ None
-
--- the item would write a row at the key of another
-pub record Collides (rows : List RowView) (group : List ItemView) (refusal : OpRefused) : Type 0 where
-  pub item : ItemView
-  pub alone : group ≡ item ∷ []
-  pub given : EntityView
-  pub entity : item.op ≡ Insert given
-  pub there : RowView
-  pub found : row_at rows (item_key goods item) ≡ Some there
-  pub first : refusal ≡ AlreadyThere 0
-
--- what a request comes to over these rows: its reply, and the row that it writes
-abbrev pub IsDecided : List RowView → ℕ → Ask → Reply → Option RowView → Type 0
-IsDecided rows tick (Getting name pk rk) (Found row) None = row_at rows (record { table = goods; pk = pk; rk = rk }) ≡ Some row
-IsDecided rows tick (Getting name pk rk) (Refusal NotFound) None = row_at rows (record { table = goods; pk = pk; rk = rk }) ≡ None
-IsDecided rows tick (Listing name options) (Listed page) None = page ≡ record { rows = rows_from rows (head_key goods []); next = None; end = End }
-IsDecided rows tick (Writing group) (Changed given) (Some row) = (given ≡ tick) × Writes rows tick group row
-IsDecided rows tick (Writing group) (Refusal (Op refusal)) None = Collides rows group refusal
-IsDecided rows tick what (Refusal Memory) None = ⊤
-IsDecided rows tick what reply row = ⊥
 
 -- the reply to a point read
 abbrev pub found_or_not : Option RowView → Reply
 found_or_not (Some row) = Found row
 found_or_not None = Refusal NotFound
 
+-- ---- what a request comes to over these rows: its reply, and the changes that it makes
+
+-- no memory was found
+abbrev pub Lacks : Reply → Option Changes → Type 0
+Lacks reply changes = (reply ≡ Refusal Memory) × (changes ≡ None)
+
+-- the row at a key, or that there is none
+abbrev pub Gets : List RowView → Key → Reply → Option Changes → Type 0
+Gets rows key reply changes = (reply ≡ found_or_not (row_at rows key)) × (changes ≡ None)
+
+-- the page up to the end of all keys
+abbrev pub Lists : List RowView → Options → Reply → Option Changes → Type 0
+Lists rows options reply changes = (reply ≡ Listed (page_below rows goods options End)) × (changes ≡ None)
+
+-- the group stands with this tick
+pub record Makes (rows : List RowView) (tick : ℕ) (group : List ItemView) (reply : Reply) (changes : Option Changes) : Type 0 where
+  pub made : Changes
+  pub changes_are : changes ≡ Some made
+  pub tick_is : made.tick ≡ tick
+  pub reply_is : reply ≡ Changed tick
+  pub in_time : tick ≤ GREATEST
+  pub outcome : group_outcome rows goods tick group ≡ Ok (applied rows made.list)
+
+-- the group is refused
+pub record Refuses (rows : List RowView) (tick : ℕ) (group : List ItemView) (reply : Reply) (changes : Option Changes) : Type 0 where
+  pub refusal : OpRefused
+  pub none : changes ≡ None
+  pub reply_is : reply ≡ Refusal (Op refusal)
+  pub in_time : tick ≤ GREATEST
+  pub timely : IsTimely refusal
+  pub outcome : group_outcome rows goods tick group ≡ Err refusal
+
+-- no moment is left for the tick
+pub record Spends (tick : ℕ) (reply : Reply) (changes : Option Changes) : Type 0 where
+  pub none : changes ≡ None
+  pub reply_is : reply ≡ Refusal TimeSpent
+  pub spent : GREATEST < tick
+
+abbrev pub IsDecided : List RowView → ℕ → Ask → Reply → Option Changes → Type 0
+IsDecided rows tick (Getting name pk rk) reply changes = Gets rows (record { table = goods; pk = pk; rk = rk }) reply changes ⊎ Lacks reply changes
+IsDecided rows tick (Listing name options) reply changes = Lists rows options reply changes ⊎ Lacks reply changes
+IsDecided rows tick (Writing group) reply changes =
+    Makes rows tick group reply changes ⊎ (Refuses rows tick group reply changes ⊎ (Spends tick reply changes ⊎ Lacks reply changes))
+
 -- the entry of a point read's answer
 abbrev pub get_entry : ℕ → List ℕ → List ℕ → Reply → Entry
 get_entry number pk rk (Found row) = Get number goods pk rk (Some row)
 get_entry number pk rk (Refusal NotFound) = Get number goods pk rk None
+get_entry number pk rk (Refusal TimeSpent) = Denied number Memory
 get_entry number pk rk (Refusal Memory) = Denied number Memory
 get_entry number pk rk (Refusal (Op refusal)) = Denied number Memory
 get_entry number pk rk (Listed page) = Denied number Memory
@@ -107,6 +121,7 @@ abbrev pub change_entry : ℕ → ℕ → List ItemView → Reply → Entry
 change_entry number moment group (Changed tick) = Change number moment goods group (Ok tick)
 change_entry number moment group (Refusal (Op refusal)) = Change number moment goods group (Err refusal)
 change_entry number moment group (Refusal NotFound) = Denied number Memory
+change_entry number moment group (Refusal TimeSpent) = Denied number TimeSpent
 change_entry number moment group (Refusal Memory) = Denied number Memory
 change_entry number moment group (Found row) = Denied number Memory
 change_entry number moment group (Listed page) = Denied number Memory
@@ -121,14 +136,14 @@ entry_of number moment (Writing group) reply = change_entry number moment group 
 abbrev pub entries_for : ℕ → ℕ → Ask → Reply → List Entry
 entries_for number moment what reply = Resolve number (name_of what) (Some goods) ∷ entry_of number moment what reply ∷ []
 
--- the rows and the least tick of the next change, with a row that was written
-abbrev pub rows_then : List RowView → Option RowView → List RowView
+-- the rows and the least tick of the next change, with changes that were made
+abbrev pub rows_then : List RowView → Option Changes → List RowView
 rows_then rows None = rows
-rows_then rows (Some row) = with_row rows row
+rows_then rows (Some changes) = applied rows changes.list
 
-abbrev pub next_then : ℕ → Option RowView → ℕ
+abbrev pub next_then : ℕ → Option Changes → ℕ
 next_then next None = next
-next_then next (Some row) = row.tick + 1
+next_then next (Some changes) = changes.tick + 1
 
 -- the event happened: the history has its entries, which are legal, and the session stands where the walk does after it
 pub record Stepped (account : List ℕ) (walk : Walk) (event : Scheduled) (text : List ℕ) (old new : Session) : Type 0 where
@@ -141,12 +156,12 @@ pub record Stepped (account : List ℕ) (walk : Walk) (event : Scheduled) (text 
 -- a request was answered with this text, and the history has its entries
 pub record Replied (old new : Session) (request : Request) (text : List ℕ) : Type 0 where
   pub reply : Reply
-  pub row : Option RowView
-  pub decided : IsDecided old.rows.rows (max old.moment old.next_tick) request.ask reply row
+  pub changes : Option Changes
+  pub decided : IsDecided old.rows.rows (max old.moment old.next_tick) request.ask reply changes
   pub written : text ≡ reply_outcome (reply_text request reply)
   pub history : new.history.items ≡ old.history.items ++ entries_for old.number old.moment request.ask reply
-  pub rows : new.rows.rows ≡ rows_then old.rows.rows row
-  pub next : new.next_tick ≡ next_then old.next_tick row
+  pub rows : new.rows.rows ≡ rows_then old.rows.rows changes
+  pub next : new.next_tick ≡ next_then old.next_tick changes
   pub number : new.number ≡ old.number + 1
   pub moment : new.moment ≡ old.moment
 
@@ -160,5 +175,5 @@ pub record RefusedAt (old new : Session) : Type 0 where
 
 -- the event is a message that is out of form
 abbrev pub IsOutOfFormEvent : List ℕ → Walk → Scheduled → Type 0
-IsOutOfFormEvent account walk (Call message) = IsOutOfForm account walk message
+IsOutOfFormEvent account walk (Call message) = IsOutOfForm account message
 IsOutOfFormEvent account walk event = ⊥

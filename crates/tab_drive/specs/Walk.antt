@@ -3,15 +3,16 @@ use Rattle.std.specs.Prelude.{◌≡◌, ℕ, ◌+◌, ◌-◌, ◌^◌, ◌<◌
 use Rattle.std.specs.List.{flat_map}
 use Rattle.tab_keys.specs.declared.bounds.Bound.TheVariants.{At}
 use Rattle.tab_edm.specs.declared.TheConstants.{GREATEST}
-use Rattle.tab_history.specs.Groups.{ItemView}
+use Rattle.tab_ops.specs.Groups.{ItemView}
 use Rattle.tab_history.specs.World.{World}
 use Rattle.tab_history.specs.Legality.{State, accepted, after_all}
 use Rattle.tab_history.specs.declared.entries.Entry.{Entry}
 use Rattle.tab_history.specs.declared.entries.Entry.TheVariants.{Bounds, Resolve, Get, Page, Change, Denied}
-use Rattle.tab_history.specs.declared.entries.Denied.TheVariants.{NotFound, Op, Memory}
+use Rattle.tab_history.specs.declared.entries.Denied.{Denied as Why}
+use Rattle.tab_history.specs.declared.entries.Denied.TheVariants.{NotFound, Op, TimeSpent, Memory}
 use Rattle.tab_history.specs.declared.entries.Doubt.{Doubt}
 use Rattle.tab_history.specs.declared.entries.Doubt.TheVariants.{Change as Changing}
-use Rattle.tab_history.specs.declared.groups.OpRefused.{OpRefused}
+use Rattle.tab_ops.specs.declared.groups.OpRefused.{OpRefused}
 use Rattle.tab_history.specs.declared.exchanges.Ask.{Ask}
 use Rattle.tab_history.specs.declared.exchanges.Ask.TheVariants.{Get as Getting, Page as Listing, Change as Writing}
 use Rattle.tab_history.specs.declared.exchanges.Reply.{Reply}
@@ -97,13 +98,26 @@ abbrev pub HasTick : Walk → Result ℕ OpRefused → Type 0
 HasTick walk (Ok tick) = tick ≡ max walk.moment walk.next_tick
 HasTick walk (Err refusal) = ⊤
 
--- the entry answers the request, which has the walk's number
+-- no moment is left for the tick of the change that is asked for
+abbrev pub IsSpent : Walk → Ask → Type 0
+IsSpent walk (Getting name pk rk) = ⊥
+IsSpent walk (Listing name options) = ⊥
+IsSpent walk (Writing group) = GREATEST < max walk.moment walk.next_tick
+
+-- the reasons for which a request may be denied whatever the rows are
+abbrev pub MayDeny : Walk → Ask → Why → Type 0
+MayDeny walk what NotFound = ⊥
+MayDeny walk what (Op refusal) = ⊥
+MayDeny walk what TimeSpent = IsSpent walk what
+MayDeny walk what Memory = ⊤
+
+-- The entry answers the request, which has the walk's number. A change is answered only where a moment is left for its tick.
 abbrev pub IsAnswer : Walk → Ask → Entry → Type 0
 IsAnswer walk (Getting name pk rk) (Get ask table p r found) = (ask ≡ walk.number) × (p ≡ pk) × (r ≡ rk)
 IsAnswer walk (Listing name options) (Page ask table asked page) = (ask ≡ walk.number) × (asked ≡ options)
 IsAnswer walk (Writing group) (Change ask now table acted result) =
-    (ask ≡ walk.number) × (now ≡ walk.moment) × (acted ≡ group) × HasTick walk result
-IsAnswer walk what (Denied ask why) = (ask ≡ walk.number) × (why ≡ Memory)
+    (ask ≡ walk.number) × (now ≡ walk.moment) × (acted ≡ group) × (max walk.moment walk.next_tick ≤ GREATEST) × HasTick walk result
+IsAnswer walk what (Denied ask why) = (ask ≡ walk.number) × MayDeny walk what why
 IsAnswer walk what entry = ⊥
 
 -- the reply that an entry stands for
@@ -136,24 +150,10 @@ reply_outcome bytes = codes "reply " ++ decimal (length bytes) ++ line_feed ∷ 
 unfoldable pub done_outcome : List ℕ
 done_outcome = codes "ok\n"
 
--- the rows that the table may have before an insert
-abbrev pub most_rows : ℕ
-most_rows = 1000
-
--- a change that is not served yet, over so many rows at this moment: the table is full, or the last moment was reached
-abbrev pub IsBeyond : ℕ → ℕ → ℕ → Ask → Type 0
-IsBeyond count moment next_tick (Getting name pk rk) = ⊥
-IsBeyond count moment next_tick (Listing name options) = ⊥
-IsBeyond count moment next_tick (Writing group) = (most_rows ≤ count) ⊎ (GREATEST < max moment next_tick)
-
-abbrev pub IsUnserved : Walk → Ask → Type 0
-IsUnserved walk what = IsBeyond (length walk.past.world.rows) walk.moment walk.next_tick what
-
 -- a message is read, answered and replied to
 pub record Answers (account : List ℕ) (walk : Walk) (message : List ℕ) (entries : List Entry) (text : List ℕ) : Type 0 where
   pub request : Request
   pub reads : IsDecision account message (Some (Go request))
-  pub served : IsUnserved walk request.ask → ⊥
   pub answer : Entry
   pub answers : IsAnswer walk request.ask answer
   pub takes : Takes walk request.ask answer entries
@@ -200,16 +200,14 @@ entries_of exchanges = flat_map (λ exchange. exchange.entries) exchanges
 abbrev pub text_of : List Exchange → List ℕ
 text_of exchanges = flat_map (λ exchange. exchange.text) exchanges
 
--- a message that comes to nothing, or one that asks what is not served yet
-abbrev pub IsOutOfForm : List ℕ → Walk → List ℕ → Type 0
-IsOutOfForm account walk message =
-    IsDecision account message None
-    ⊎ ((request : Request) × IsDecision account message (Some (Go request)) × IsUnserved walk request.ask)
+-- the message comes to nothing that is served
+abbrev pub IsOutOfForm : List ℕ → List ℕ → Type 0
+IsOutOfForm account message = IsDecision account message None
 
 -- the walk goes on with no event of these bytes: none is spelled there, or its message is out of form, or numbers
 -- have run out
 abbrev pub IsRefused : List ℕ → Walk → List ℕ → Type 0
 IsRefused account walk bytes =
     IsNoEvent bytes
-    ⊎ ((message : List ℕ) × (rest : List ℕ) × Fits (Call message) × (bytes ≡ spelling (Call message) ++ rest) × IsOutOfForm account walk message)
+    ⊎ ((message : List ℕ) × (rest : List ℕ) × Fits (Call message) × (bytes ≡ spelling (Call message) ++ rest) × IsOutOfForm account message)
     ⊎ ((last_number ≤ walk.number) × ((rest : List ℕ) → bytes ≡ end_line ++ rest → ⊥))

@@ -1,11 +1,12 @@
 //! Schedules of requests, and the top call `run`.
 #![tactic(auto)]
 
+mod applying;
 mod commands;
-mod copies;
 mod laws;
 mod lines;
 mod outgoing;
+mod paging;
 mod reading;
 mod schedule;
 mod serving;

@@ -1,6 +1,6 @@
-ghost use Rattle.std.specs.Prelude.{◌≡◌, ◌≢◌, ◌≤◌, length, Ok, Err, MatchResult, IfOk};
+ghost use Rattle.std.specs.Prelude.{◌≡◌, ◌≢◌, ◌≤◌, length, Ok, Err, MatchResult, IfOk, IfErr};
 ghost use Rattle.tab_edm.specs.declared.TheConstants.{GREATEST};
-ghost use Rattle.tab_ops.specs.Changes.{group_outcome, applied};
+ghost use Rattle.tab_ops.specs.Changes.{group_outcome, applied, IsTimely};
 
 use crate::{Group, OpRefused};
 use std::alloc::Global;
@@ -65,6 +65,7 @@ pub fn plan(
         (λ changes. group_outcome rows.now.rows table tick group.now ≡ Ok (applied rows.now.rows changes.list))
         (λ why. why ≢ OpRefused.Memory → group_outcome rows.now.rows table tick group.now ≡ Err why) }
     ensures tick { IfOk result (λ changes. changes.tick ≡ tick) }
+    ensures timely { IfErr result IsTimely }
     ensures each { IfOk result (λ changes. length changes.list ≡ length group.now) }
 {
     Err(OpRefused::Memory)

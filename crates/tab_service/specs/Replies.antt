@@ -7,6 +7,7 @@ use Rattle.tab_rows.specs.Rows.{RowView}
 use Rattle.tab_page.specs.Tokens.{token_text}
 use Rattle.tab_page.specs.declared.pages.Page.{Page as PageView}
 use Rattle.tab_ops.specs.Groups.{ItemView}
+use Rattle.tab_ops.specs.Changes.{IsTimely}
 use Rattle.tab_ops.specs.declared.ops.Op.{Op as Operation}
 use Rattle.tab_ops.specs.declared.ops.Op.TheVariants.{Insert, Update, Replace, Merge, MergeIn, Delete}
 use Rattle.tab_ops.specs.declared.groups.OpRefused.{OpRefused}
@@ -27,15 +28,7 @@ use Rattle.tab_service.specs.declared.forms.Request.{Request}
 
 -- ---- which replies may come
 
--- the kept tick that a refusal names is a moment
-abbrev pub IsTimely : OpRefused → Type 0
-IsTimely (AlreadyThere index) = ⊤
-IsTimely (NotThere index) = ⊤
-IsTimely (Condition index tick) = tick ≤ GREATEST
-IsTimely (TooMany index) = ⊤
-IsTimely (TooLarge index) = ⊤
-IsTimely NoMemory = ⊤
-
+-- the kept tick that a denial names is a moment
 abbrev pub IsTimelyDenial : Why → Type 0
 IsTimelyDenial NotFound = ⊤
 IsTimelyDenial (Op refusal) = IsTimely refusal

@@ -2,7 +2,8 @@ ghost use Rattle.std.specs.Prelude.{◌≡◌, ◌≤◌, ◌∷◌, ◌++◌, [
 ghost use Rattle.std.specs.Option.{option_copied};
 ghost use Rattle.http.specs.StatusCode.{IsStatusCode};
 ghost use Rattle.tab_edm.specs.Moments.{text_of_etag};
-ghost use Rattle.tab_service.specs.Replies.{Suits, header_line, status_line, head_text, version_header, reply_with_body, fault_reply, refused_reply, denied_reply, json_type, continuation, page_reply, row_reply, applied, created_reply, bodiless_reply, insert_reply, written_reply, change_reply, reply_text, IsTimely, IsTimelyDenial, not_there};
+ghost use Rattle.tab_service.specs.Replies.{Suits, header_line, status_line, head_text, version_header, reply_with_body, fault_reply, refused_reply, denied_reply, json_type, continuation, page_reply, row_reply, applied, created_reply, bodiless_reply, insert_reply, written_reply, change_reply, reply_text, IsTimelyDenial, not_there};
+ghost use Rattle.tab_ops.specs.Changes.{IsTimely};
 
 use crate::refusals::around;
 use crate::{Form, Prefer, Request};
