@@ -4,6 +4,8 @@ ghost use Rattle.tab_outside.specs.Sides.{nothing_beside};
 mod conversations;
 mod copies;
 mod limits;
+mod operations;
+mod pages;
 
 use super::run;
 use std::alloc::{AllocError, Global};

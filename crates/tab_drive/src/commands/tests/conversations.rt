@@ -9,7 +9,7 @@ use std::test::Fail;
 use tab_outside::{MemDisk, MemSink, MemSource, SetClock};
 
 /// A message, and its reply.
-type Exchange = (&'static str, &'static str);
+pub type Exchange = (&'static str, &'static str);
 
 /// A schedule's bytes, and what is to be written for it.
 #[derive(Drop)]
@@ -179,7 +179,7 @@ const REQUESTS_ARE_REFUSED_IN_ORDER: [Exchange; 13] = [
     ),
 ];
 
-fn converse(rt: &impl Abort, alloc: Global, now: &str, exchanges: &[Exchange]) -> Result<(), Fail> {
+pub fn converse(rt: &impl Abort, alloc: Global, now: &str, exchanges: &[Exchange]) -> Result<(), Fail> {
     let mut script = Script {
         input: joined(alloc, &[now, "\n"])?,
         output: joined(alloc, &["ok\n"])?,

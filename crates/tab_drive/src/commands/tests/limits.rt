@@ -1,4 +1,4 @@
-// The limits of keys, names, values and entities, each taken and passed by one.
+// The limits of keys, names, values, entities and pages, each taken and passed by one.
 use super::{joined, words_of};
 use crate::run;
 use std::alloc::{AllocError, Global};
@@ -137,4 +137,77 @@ fn limits_are_taken_and_no_more(rt: HostRuntime) -> Result<(), Fail> {
         },
         "EntityTooLarge",
     )
+}
+
+/// A schedule that inserts so many rows, whose keys rise, and then asks these queries.
+fn schedule(alloc: Global, rows: usize, queries: &[&str]) -> Result<String, AllocError> {
+    let mut input = String::new(alloc);
+    for index in 0..rows {
+        let body = format!(in alloc; "{{\"PartitionKey\":\"p\",\"RowKey\":\"{index:05}\"}}")?;
+        let message = format!(in alloc;
+            "POST /shop/Goods HTTP/1.1\r\nPrefer: return-no-content\r\nContent-Length: {}\r\n\r\n{body}",
+            body.len()
+        )?;
+        write!(&mut input, "call {}\n{message}\n", message.len())?;
+    }
+    for query in queries {
+        let message = format!(in alloc; "GET /shop/Goods(){query} HTTP/1.1\r\nAccept: odata=nometadata\r\n\r\n")?;
+        write!(&mut input, "call {}\n{message}\n", message.len())?;
+    }
+    input.push_str("end\n")?;
+    Ok(input)
+}
+
+/// What a run writes behind the replies to its inserts.
+fn pages(alloc: Global, rows: usize, queries: &[&str]) -> Result<Vec<u8>, AllocError> {
+    let input = schedule(alloc, rows, queries)?;
+    let words = words_of(alloc, &["drive", "shop", "-"])?;
+    let mut source = MemSource::new(input.into_bytes(), Vec::new(alloc));
+    let mut sink = MemSink::new(alloc, Vec::new(alloc));
+    let mut yard: Vec<MemDisk> = Vec::new(alloc);
+    let mut clock = SetClock::new(0);
+    let _ended = run(
+        alloc,
+        words.as_slice(),
+        &mut source,
+        &mut sink,
+        &mut yard,
+        &mut clock,
+    );
+    let text = str::from_utf8(sink.bytes()).unwrap_or("");
+    match text.find("HTTP/1.1 200 OK") {
+        Some(at) => joined(alloc, &[&text[at..]]),
+        None => Ok(Vec::new(alloc)),
+    }
+}
+
+/// The pages hold so many rows together, and so many of them have a next one.
+fn holds(
+    rt: &impl Abort,
+    alloc: Global,
+    rows: usize,
+    queries: &[&str],
+    held: usize,
+    continued: usize,
+) -> Result<(), Fail> {
+    let bytes = pages(alloc, rows, queries)?;
+    let text = str::from_utf8(bytes.as_slice()).unwrap_or("");
+    assert_eq!(rt; text.matches("Timestamp").count(), held, "{queries:?}");
+    assert_eq!(rt; text.matches("NextRowKey").count(), continued, "{queries:?}");
+    assert_eq!(rt; text.matches(" 200 OK").count(), queries.len(), "{queries:?}");
+    Ok(())
+}
+
+#[test]
+fn pages_end_at_their_limits(rt: HostRuntime) -> Result<(), Fail> {
+    let alloc = rt.alloc();
+    holds(&rt, alloc, 1_000, &["", "?$top=1000"], 2_000, 0)?;
+    holds(&rt, alloc, 1_001, &[""], 1_000, 1)?;
+    // The 1,001st row and the 10,001st row are named by the tokens.
+    let rest = "?NextPartitionKey=1.cA&NextRowKey=1.MDEwMDA";
+    holds(&rt, alloc, 1_001, &[rest], 1, 0)?;
+    let none = "?$filter=A%20eq%201";
+    let last = "?$filter=A%20eq%201&NextPartitionKey=1.cA&NextRowKey=1.MTAwMDA";
+    holds(&rt, alloc, 10_001, &[none], 0, 1)?;
+    holds(&rt, alloc, 10_001, &[last], 0, 0)
 }
