@@ -1,9 +1,8 @@
 -- What operations and groups of them make of rows.
-use Rattle.std.specs.Prelude.{◌≡◌, ℕ, ◌+◌, List, [], ◌∷◌, ◌++◌, length, map, filter, Bool, true, ◌==◌, nat_lt, if◌then◌else◌, Option, Some, None, Result, Ok, Err, ⊤, ◌≤◌}
+use Rattle.std.specs.Prelude.{ℕ, ◌+◌, List, [], ◌∷◌, ◌++◌, length, map, filter, Bool, true, ◌==◌, nat_lt, if◌then◌else◌, Option, Some, None, Result, Ok, Err}
 use Rattle.tab_keys.specs.declared.keys.Key.{Key}
 use Rattle.tab_edm.specs.Entities.{EntityView, name_lt, entity_size}
 use Rattle.tab_edm.specs.declared.values.Property.{Property}
-use Rattle.tab_edm.specs.declared.TheConstants.{GREATEST}
 use Rattle.tab_rows.specs.Rows.{RowView, row_at, with_row, without_row}
 use Rattle.tab_rows.specs.declared.changes.Change.{Change}
 use Rattle.tab_rows.specs.declared.changes.Change.TheVariants.{Put, Take}
@@ -13,7 +12,7 @@ use Rattle.tab_ops.specs.declared.ops.Match.TheVariants.{Any, Tick}
 use Rattle.tab_ops.specs.declared.ops.Op.{Op}
 use Rattle.tab_ops.specs.declared.ops.Op.TheVariants.{Insert, Update, Replace, Merge, MergeIn, Delete}
 use Rattle.tab_ops.specs.declared.groups.OpRefused.{OpRefused}
-use Rattle.tab_ops.specs.declared.groups.OpRefused.TheVariants.{AlreadyThere, NotThere, Condition, TooMany, TooLarge, Memory}
+use Rattle.tab_ops.specs.declared.groups.OpRefused.TheVariants.{AlreadyThere, NotThere, Condition, TooMany, TooLarge}
 
 -- ---- one operation
 
@@ -102,13 +101,16 @@ abbrev pub applied : List RowView → List Change → List RowView
 applied rows [] = rows
 applied rows (change ∷ changes) = applied (changed rows change) changes
 
--- ---- refusals
+-- the change that makes this of the row at a key
+abbrev pub change_to : Key → ℕ → Option EntityView → Change
+change_to key tick (Some entity) = Put (record { key = key; entity = entity; tick = tick })
+change_to key tick None = Take key
 
--- the kept tick that a refusal names is a moment
-abbrev pub IsTimely : OpRefused → Type 0
-IsTimely (AlreadyThere index) = ⊤
-IsTimely (NotThere index) = ⊤
-IsTimely (Condition index tick) = tick ≤ GREATEST
-IsTimely (TooMany index) = ⊤
-IsTimely (TooLarge index) = ⊤
-IsTimely Memory = ⊤
+abbrev pub as_change : Key → ℕ → Result (Option EntityView) OpRefused → Result Change OpRefused
+as_change key tick (Ok outcome) = Ok (change_to key tick outcome)
+as_change key tick (Err refusal) = Err refusal
+
+-- the change that an item, the one at this place of its group, makes of rows, or its refusal
+abbrev pub change_of : ℕ → List RowView → ℕ → ℕ → ItemView → Result Change OpRefused
+change_of index rows table tick item =
+    as_change (item_key table item) tick (outcome_of index (row_at rows (item_key table item)) item.op)

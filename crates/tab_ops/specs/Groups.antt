@@ -1,11 +1,11 @@
 -- Operations on rows, and groups of them.
-use Rattle.std.specs.Prelude.{◌≡◌, ℕ, ◌+◌, List, [], ◌∷◌, length, Bool, true, not, ◌&&◌, ◌==◌, nat_lt, bytes_eq, Option, Some, None, if◌then◌else◌, Result, Ok, Err, ⊤}
+use Rattle.std.specs.Prelude.{◌≡◌, ℕ, ◌+◌, List, [], ◌∷◌, length, Bool, ◌&&◌, nat_lt, bytes_eq, AllPairs, IsFalse, Option, Some, None, if◌then◌else◌, Result, Ok, Err, ⊤}
 use Rattle.std.specs.List.{list_any}
 use Rattle.std.specs.Option.{option_or}
+use Rattle.std.specs.Ordering.{is_eq}
+use Rattle.tab_keys.specs.Order.{text_cmp}
 use Rattle.tab_keys.specs.TableNames.{folded}
 use Rattle.tab_keys.specs.declared.keys.Key.{Key}
-use Rattle.tab_ops.specs.declared.ops.Match.{Match}
-use Rattle.tab_ops.specs.declared.ops.Match.TheVariants.{Any, Tick}
 use Rattle.tab_ops.specs.declared.ops.Op.{Op}
 use Rattle.tab_ops.specs.declared.ops.Op.TheVariants.{Insert, Update, Replace, Merge, MergeIn, Delete}
 use Rattle.tab_ops.specs.declared.groups.GroupRefused.{GroupRefused}
@@ -60,6 +60,7 @@ group_refusal (first ∷ items) =
     if nat_lt most_items (length (first ∷ items)) then Some TooMany
     else option_or (first_elsewhere 0 first (first ∷ items)) (first_doubled 0 [] (first ∷ items))
 
+-- the items, or why they are refused
 abbrev pub unless_refused : List ItemView → Option GroupRefused → Result (List ItemView) GroupRefused
 unless_refused items None = Ok items
 unless_refused items (Some why) = Err why
@@ -67,3 +68,12 @@ unless_refused items (Some why) = Err why
 -- the group of operations, or why they make none
 abbrev pub grouped : List ItemView → Result (List ItemView) GroupRefused
 grouped items = unless_refused items (group_refusal items)
+
+-- no two items have one row key
+abbrev pub AreApart : List ItemView → Type 0
+AreApart items = AllPairs (λ a b. IsFalse (is_eq (text_cmp a.rk b.rk))) items
+
+-- operations that make a group
+pub record IsGroup (items : List ItemView) : Type 0 where
+  pub allowed : group_refusal items ≡ None
+  pub apart : AreApart items

@@ -1,2 +1,4 @@
 pub mod Groups
 pub mod Changes
+pub mod Merges
+pub mod Laws

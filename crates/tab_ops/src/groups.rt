@@ -1,8 +1,11 @@
-ghost use Rattle.std.specs.Prelude.{◌≡◌, ◌≢◌, [], ◌∷◌, Ok, Err, MatchResult, IfOk};
-ghost use Rattle.tab_ops.specs.Groups.{grouped};
+ghost use Rattle.std.specs.Prelude.{◌≡◌, ◌≢◌, [], ◌∷◌, Ok, Err, None, MatchResult, IfOk, IfNone, All, IsFalse, bytes_eq};
+ghost use Rattle.std.specs.List.{list_any};
+ghost use Rattle.std.specs.Ordering.{is_eq};
+ghost use Rattle.tab_keys.specs.Order.{text_cmp};
+ghost use Rattle.tab_ops.specs.Groups.{AreApart, grouped, group_refusal, first_elsewhere, first_doubled};
 
 use crate::Item;
-use std::alloc::Global;
+use std::alloc::{AllocError, AllocFailed, Global};
 use std::marker::Model;
 use tab_keys::Memory;
 
@@ -38,6 +41,39 @@ pub enum OpRefused {
     Memory,
 }
 
+impl From<Memory> for OpRefused {
+    ghost use Rattle.tab_ops.specs.declared.groups.OpRefused.{OpRefused};
+
+    ghost from_gives = { λ _ refused. refused ≡ OpRefused.Memory };
+
+    fn from(_memory: Memory) -> OpRefused {
+        OpRefused::Memory
+    }
+}
+
+impl From<AllocError> for OpRefused {
+    ghost use Rattle.tab_ops.specs.declared.groups.OpRefused.{OpRefused};
+
+    ghost from_gives = { λ _ refused. refused ≡ OpRefused.Memory };
+
+    fn from(_error: AllocError) -> OpRefused {
+        OpRefused::Memory
+    }
+}
+
+impl<T: Drop> From<AllocFailed<T>> for OpRefused {
+    ghost use Rattle.tab_ops.specs.declared.groups.OpRefused.{OpRefused};
+
+    ghost from_gives = { λ _ refused. refused ≡ OpRefused.Memory };
+
+    fn from(_failed: AllocFailed<T>) -> OpRefused {
+        OpRefused::Memory
+    }
+}
+
+/// The most operations of a group.
+const MOST_ITEMS: usize = 100;
+
 /// Operations on rows of one partition that act as a whole or not at all, each on a row of its own.
 #[derive(Debug, Drop)]
 pub struct Group {
@@ -45,37 +81,113 @@ pub struct Group {
 }
 
 impl Model for Group {
-    ghost use Rattle.std.specs.Prelude.{◌≡◌, List, None, vec_items};
-    ghost use Rattle.tab_ops.specs.Groups.{ItemView, group_refusal};
+    ghost use Rattle.std.specs.Prelude.{List, vec_items};
+    ghost use Rattle.tab_ops.specs.Groups.{ItemView, IsGroup};
 
     ghost Value = { List ItemView };
 
     ghost view = { λ group. group.items.items };
 
-    ghost invariant = { λ group. group_refusal group.items.items ≡ None };
+    ghost invariant = { λ group. IsGroup group.items.items };
 }
 
 impl Group {
-    /// The group of these operations.
+    /// The group of these operations. This takes no memory.
     pub fn new(items: Vec<Item>) -> Result<Group, GroupRefused>
         ensures { MatchResult result
             (λ group. grouped items.items ≡ Ok group)
             (λ why. why ≢ GroupRefused.Memory → grouped items.items ≡ Err why) }
     {
-        Err(GroupRefused::Memory)
+        match group_refusal(items.as_slice()) {
+            None => Ok(Group { items }),
+            Some(why) => Err(why),
+        }
     }
 
     /// The group of one operation.
     pub fn of(alloc: Global, item: Item) -> Result<Group, Memory>
         ensures { IfOk result (λ group. group ≡ item ∷ []) }
     {
-        Err(Memory)
+        let mut items = Vec::new(alloc);
+        match items.push(item) {
+            Ok(()) => Ok(Group { items }),
+            Err(_) => Err(Memory),
+        }
     }
 
     /// The operations, in the order in which they act.
     pub fn items(&self) -> &[Item]
-        ensures { result.now ≡ self.now }
+        ensures items { result.now ≡ self.now }
+        ensures allowed { group_refusal self.now ≡ None }
+        ensures apart { AreApart self.now }
     {
         self.items.as_slice()
     }
+
+    pub fn try_copy(&self, alloc: Global) -> Result<Group, Memory>
+        ensures { IfOk result (λ copy. copy ≡ self.now) }
+    {
+        match copied(alloc, self.items.as_slice()) {
+            Ok(items) => Ok(Group { items }),
+            Err(_) => Err(Memory),
+        }
+    }
+}
+
+fn copied(alloc: Global, items: &[Item]) -> Result<Vec<Item>, OpRefused>
+    ensures { IfOk result (λ copies. copies.items ≡ items.now) }
+{
+    let mut copies = Vec::with_capacity(alloc, items.len())?;
+    for item in items {
+        copies.push(item.try_copy(alloc)?)?;
+    }
+    Ok(copies)
+}
+
+fn group_refusal(items: &[Item]) -> Option<GroupRefused>
+    ensures refusal { result ≡ group_refusal items.now }
+    ensures apart { IfNone result (AreApart items.now) }
+{
+    let Some(first) = items.first() else {
+        return Some(GroupRefused::Empty);
+    };
+    if items.len() > MOST_ITEMS {
+        return Some(GroupRefused::TooMany);
+    }
+    match first_elsewhere(first, items) {
+        Some(why) => Some(why),
+        None => first_doubled(items),
+    }
+}
+
+fn first_elsewhere(first: &Item, items: &[Item]) -> Option<GroupRefused>
+    ensures { result ≡ first_elsewhere 0 first.now items.now }
+{
+    for (index, item) in items.iter().enumerate() {
+        if !item.is_beside(first) {
+            return Some(GroupRefused::MixedPartitions { index });
+        }
+    }
+    None
+}
+
+// A group has so few items that each is compared with those before it: that takes no memory.
+fn first_doubled(items: &[Item]) -> Option<GroupRefused>
+    ensures refusal { result ≡ first_doubled 0 [] items.now }
+    ensures apart { IfNone result (AreApart items.now) }
+{
+    for (index, item) in items.iter().enumerate() {
+        if stood_before(&items[..index], item) {
+            return Some(GroupRefused::DoubledRow { index });
+        }
+    }
+    None
+}
+
+// Whether the row key of the item is one of these items'.
+fn stood_before(before: &[Item], item: &Item) -> bool
+    ensures bytes { result ≡ list_any (λ other. bytes_eq other.rk item.now.rk) before.now }
+    ensures units { IsFalse result → All (λ other. IsFalse (is_eq (text_cmp other.rk item.now.rk))) before.now }
+{
+    before.iter().any(|other| other.has_row_key_of(item))
 }

@@ -1,9 +1,12 @@
-ghost use Rattle.std.specs.Prelude.{◌≡◌, IfOk};
+ghost use Rattle.std.specs.Prelude.{◌≡◌, IfOk, bytes_eq};
+ghost use Rattle.std.specs.Ordering.{is_eq};
+ghost use Rattle.tab_keys.specs.Order.{text_cmp};
+ghost use Rattle.tab_ops.specs.Groups.{is_beside, item_key};
 
 use std::alloc::Global;
 use std::marker::Model;
 use tab_edm::Entity;
-use tab_keys::{KeyText, Memory, TableName};
+use tab_keys::{Key, KeyText, Memory, TableName};
 
 /// Which kept row an operation acts on.
 #[derive(Clone, Copy, Debug, PartialEq, Eq)]
@@ -46,7 +49,7 @@ impl Op {
     }
 }
 
-fn copied(alloc: Global, entity: &Entity) -> Result<Entity, Memory>
+pub(crate) fn copied(alloc: Global, entity: &Entity) -> Result<Entity, Memory>
     ensures { IfOk result (λ copy. copy ≡ entity.now) }
 {
     entity.try_copy(alloc).map_err(|_| Memory)
@@ -83,5 +86,30 @@ impl Item {
             rk: self.rk.try_copy(alloc)?,
             op: self.op.try_copy(alloc)?,
         })
+    }
+
+    /// The key of its row in a table with this number.
+    pub(crate) fn key(&self, alloc: Global, table: u64) -> Result<Key, Memory>
+        ensures { IfOk result (λ key. key ≡ item_key table self.now) }
+    {
+        Ok(Key {
+            table,
+            pk: self.pk.try_copy(alloc)?,
+            rk: self.rk.try_copy(alloc)?,
+        })
+    }
+
+    /// Whether it is in the table and partition of another.
+    pub(crate) fn is_beside(&self, first: &Item) -> bool
+        ensures { result ≡ is_beside first.now self.now }
+    {
+        self.name == first.name && self.pk.as_str() == first.pk.as_str()
+    }
+
+    pub(crate) fn has_row_key_of(&self, other: &Item) -> bool
+        ensures bytes { result ≡ bytes_eq self.now.rk other.now.rk }
+        ensures units { result ≡ is_eq (text_cmp self.now.rk other.now.rk) }
+    {
+        self.rk.as_str() == other.rk.as_str()
     }
 }

