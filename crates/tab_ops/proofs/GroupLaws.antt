@@ -1,6 +1,6 @@
 -- What groups make of rows: item by item, and as a whole.
 use Rattle.std.proofs.Common.{◌≡◌, ℕ, zero, suc, ◌+◌, List, [], ◌∷◌, Ordering, Bool, true, false, ◌&&◌, cond, is_eq, length, get_or, refl, sym, ap, ◌∙◌, subst, arith, inl, inr}
-use Rattle.std.specs.Prelude.{Option, Some, None, Ok, Err, Result, All, Contains, IsFalse, bytes_eq, nat_lt, slice_get}
+use Rattle.std.specs.Prelude.{Option, Some, None, Ok, Err, Result, All, Contains, IsFalse, IsOk, bytes_eq, nat_lt, slice_get}
 use Rattle.std.proofs.lemmas.Option.{none-some, same_Some}
 use Rattle.std.proofs.lemmas.List.{get_or-map, length-map}
 use Rattle.std.proofs.lemmas.List.Elements.{All-nil, All-cons, All-head, All-tail, All-weaker, All-contains_itself}
@@ -19,7 +19,7 @@ use Rattle.tab_ops.specs.Groups.{ItemView, item_key, AreApart, first_elsewhere, 
 use Rattle.tab_ops.specs.declared.groups.GroupRefused.{GroupRefused}
 use Rattle.tab_ops.specs.declared.groups.GroupRefused.TheVariants.{TooMany, MixedPartitions}
 use Rattle.tab_ops.specs.Changes.{outcome_of, settled, unless_refused, rows_after, group_outcome, group_keys}
-use Rattle.tab_ops.specs.Laws.{row_made, IsKeptOrPut, SawRowsBefore}
+use Rattle.tab_ops.specs.Laws.{row_made, IsKeptOrPut, SawRowsBefore, IsRefusedByItem}
 use Rattle.tab_ops.specs.declared.groups.OpRefused.{OpRefused}
 use Rattle.tab_ops.proofs.Lists.{AllPairs-head, AllPairs-tail}
 
@@ -159,8 +159,61 @@ refused_alike index rows others table tick other (item ∷ items) why apart alik
 pub alike_itself : (rows : List RowView) (table : ℕ) (items : List ItemView) → AreAlike rows rows table items
 alike_itself rows table items = λ k d within. refl
 
+-- a refusal is that of an item, by its place behind the first
+record RefusedFrom (index : ℕ) (rows : List RowView) (table : ℕ) (items : List ItemView) (why : OpRefused) : Type 0 where
+  pub place : ℕ
+  pub item : ItemView
+  pub here : slice_get items place ≡ Some item
+  pub refused : outcome_of (index + place) (row_at rows (item_key table item)) item.op ≡ Err why
+
+refused_from : (index : ℕ) (rows now : List RowView) (table tick : ℕ) (items : List ItemView) (why : OpRefused) → AreApart items → AreAlike now rows table items
+    → rows_after index now table tick items ≡ Err why → RefusedFrom index rows table items why
+refused_from index rows now table tick [] why apart alike h = absurd (cc)
+refused_from index rows now table tick (item ∷ items) why apart alike h =
+    by_case
+    (λ outcome k. refused_from (index + 1) rows (settled now (item_key table item) tick outcome) table tick items why
+    (AllPairs-tail (λ a b. IsFalse (is_eq (text_cmp a.rk b.rk))) item items apart)
+    (λ n d within. row_at-settled_other now (item_key table item) tick outcome _ (head_apart table item items apart n d within)
+    ∙ All-tail (λ item. row_at now (item_key table item) ≡ row_at rows (item_key table item)) item items alike n d within)
+    k)
+    (outcome_of index (row_at now (item_key table item)) item.op) refl
+  where
+    next : Option EntityView → Result (List RowView) OpRefused
+    next outcome = rows_after (index + 1) (settled now (item_key table item) tick outcome) table tick items
+
+    later : RefusedFrom (index + 1) rows table items why → RefusedFrom index rows table (item ∷ items) why
+    later r =
+        let further : (index + 1) + r.place ≡ index + suc r.place = omega arith in
+        record { place = suc r.place; item = r.item; here = r.here; refused = ap (λ n. outcome_of n (row_at rows (item_key table r.item)) r.item.op) (sym further) ∙ r.refused }
+
+    by_case : ((outcome : Option EntityView) → next outcome ≡ Err why → RefusedFrom (index + 1) rows table items why) → (o : Result (Option EntityView) OpRefused) → outcome_of index (row_at now (item_key table item)) item.op ≡ o → RefusedFrom index rows table (item ∷ items) why
+    by_case rest (Ok outcome) e = later (rest outcome (ap (λ r. unless_refused r next) (sym e) ∙ h))
+    by_case rest (Err refusal) e =
+        let at_once : index + zero ≡ index = omega arith in
+        let stopped : unless_refused (Err refusal) next ≡ Err why = ap (λ r. unless_refused r next) (sym e) ∙ h in
+        record {
+          place = zero;
+          item = item;
+          here = refl;
+          refused = ap (λ n. outcome_of n (row_at rows (item_key table item)) item.op) at_once
+              ∙ (ap (λ row. outcome_of index row item.op) (sym (All-head (λ item. row_at now (item_key table item) ≡ row_at rows (item_key table item)) item items alike)) ∙ (e ∙ cc));
+        }
+
+pub refused_by_item : (rows : List RowView) (table tick : ℕ) (group : List ItemView) (why : OpRefused) → AreApart group → group_outcome rows table tick group ≡ Err why → IsRefusedByItem rows table group why
+refused_by_item rows table tick group why apart h =
+    let r = refused_from 0 rows rows table tick group why apart (alike_itself rows table group) h in
+    let place : 0 + r.place ≡ r.place = omega arith in
+    record { place = r.place; item = r.item; here = r.here; refused = ap (λ n. outcome_of n (row_at rows (item_key table r.item)) r.item.op) (sym place) ∙ r.refused }
+
 pub refused_at_any_tick : (rows : List RowView) (table tick other : ℕ) (group : List ItemView) (why : OpRefused) → AreApart group → group_outcome rows table tick group ≡ Err why → group_outcome rows table other group ≡ Err why
 refused_at_any_tick rows table tick other group why apart h = refused_alike 0 rows rows table tick other group why apart (alike_itself rows table group) h
+
+pub accepted_at_any_tick : (rows after : List RowView) (table tick other : ℕ) (group : List ItemView) → AreApart group → group_outcome rows table tick group ≡ Ok after → IsOk (group_outcome rows table other group)
+accepted_at_any_tick rows after table tick other group apart h = by_case (group_outcome rows table other group) refl
+  where
+    by_case : (o : Result (List RowView) OpRefused) → group_outcome rows table other group ≡ o → IsOk (group_outcome rows table other group)
+    by_case (Ok others) e = rw e refl
+    by_case (Err why) e = let stuck : Ok after ≡ Err why = sym h ∙ refused_at_any_tick rows table other tick group why apart e in absurd (cc)
 
 -- each item acts on the rows as they were before the group
 pub saw_rows_before : (index : ℕ) (rows now after : List RowView) (table tick place : ℕ) (items : List ItemView) (item : ItemView) → AreApart items → AreAlike now rows table items

@@ -1,14 +1,14 @@
 -- A group's changes, one item after another.
-use Rattle.std.proofs.Common.{◌≡◌, ℕ, ◌+◌, ◌<◌, ◌≤◌, List, [], ◌∷◌, ◌++◌, Bool, true, false, cond, length, get_or, drop, refl, sym, ap, subst, ◌∙◌, arith}
-use Rattle.std.specs.Prelude.{Option, Some, None, Result, Ok, Err, nat_lt}
-use Rattle.std.proofs.lemmas.List.Elements.{All-head, All-tail}
-use Rattle.std.proofs.lemmas.List.{drop_more, drop_all, get_or-drop, length-drop, length-append}
+use Rattle.std.proofs.Common.{◌≡◌, ℕ, ◌+◌, ◌<◌, ◌≤◌, List, [], ◌∷◌, ◌++◌, map, Bool, true, false, cond, length, get_or, take, drop, refl, sym, ap, subst, ◌∙◌, arith}
+use Rattle.std.specs.Prelude.{Option, Some, None, Result, Ok, Err, All, nat_lt}
+use Rattle.std.proofs.lemmas.List.Elements.{All-nil, All-head, All-tail, All-push}
+use Rattle.std.proofs.lemmas.List.{drop_all, drop_more, get_or-drop, length-drop, length-map, map-append, map_more, take_all}
 use Rattle.tab_keys.specs.declared.keys.Key.{Key}
 use Rattle.tab_edm.specs.Entities.{EntityView, entity_size}
 use Rattle.tab_rows.specs.Rows.{RowView, row_at}
 use Rattle.tab_rows.specs.declared.changes.Change.{Change}
 use Rattle.tab_ops.specs.Groups.{ItemView, item_key, IsMadeFor, AreApart}
-use Rattle.tab_ops.specs.Changes.{meets, merged, within_limits, merge_outcome, on_condition, outcome_of, settled, unless_refused, rows_after, group_outcome, changed, applied, change_to, as_change, change_of}
+use Rattle.tab_ops.specs.Changes.{meets, merged, within_limits, merge_outcome, on_condition, outcome_of, settled, unless_refused, rows_after, group_outcome, group_keys, changed, applied, change_key, HasTick, change_to, as_change, change_of}
 use Rattle.tab_ops.specs.declared.ops.Match.{Match}
 use Rattle.tab_ops.specs.declared.ops.Op.{Op}
 use Rattle.tab_ops.specs.declared.ops.Op.TheVariants.{Insert, Update, Replace, Merge, MergeIn, Delete}
@@ -76,6 +76,18 @@ applied-last : (rows : List RowView) (changes : List Change) (change : Change) �
 applied-last rows [] change = refl
 applied-last rows (first ∷ changes) change = applied-last (changed rows first) changes change
 
+key_of_change : (key : Key) (tick : ℕ) (outcome : Option EntityView) → change_key (change_to key tick outcome) ≡ key
+key_of_change key tick (Some entity) = refl
+key_of_change key tick None = refl
+
+tick_of_change : (key : Key) (tick : ℕ) (outcome : Option EntityView) → HasTick tick (change_to key tick outcome)
+tick_of_change key tick (Some entity) = refl
+tick_of_change key tick None = tt
+
+keys_more : (changes : List Change) (change : Change) (keys : List Key) (key : Key) → map change_key changes ≡ keys → key ≡ change_key change → map change_key (changes ++ change ∷ []) ≡ keys ++ key ∷ []
+keys_more changes change keys key so_far here =
+    map-append change_key changes (change ∷ []) ∙ (ap (λ (own : List Key). own ++ change_key change ∷ []) so_far ∙ ap (λ (own : Key). keys ++ own ∷ []) (sym here))
+
 -- an item that makes a change
 record Makes (index : ℕ) (rows : List RowView) (table tick : ℕ) (item : ItemView) (change : Change) : Type 0 where
   pub outcome : Option EntityView
@@ -108,10 +120,11 @@ refuses index rows table tick item why h = by_case (outcome_of index (row_at row
 pub record Planned (rows : List RowView) (changes : List Change) (table tick : ℕ) (items : List ItemView) (i : ℕ) : Type 0 where
   pub so_far : group_outcome rows table tick items ≡ rows_after i (applied rows changes) table tick (drop i items)
   pub alike : AreAlike (applied rows changes) rows table (drop i items)
-  pub count : length changes ≡ i
+  pub keys : map change_key changes ≡ map (item_key table) (take i items)
+  pub ticks : All (HasTick tick) changes
 
 pub planned_none : (rows : List RowView) (table tick : ℕ) (items : List ItemView) → Planned rows [] table tick items 0
-planned_none rows table tick items = record { so_far = refl; alike = alike_itself rows table items; count = refl }
+planned_none rows table tick items = record { so_far = refl; alike = alike_itself rows table items; keys = refl; ticks = All-nil (HasTick tick) }
 
 apart_behind : (items : List ItemView) (n : ℕ) → AreApart items → AreApart (drop n items)
 apart_behind items n apart = λ i j d below within.
@@ -158,8 +171,17 @@ module _ (rows : List RowView) (changes : List Change) (table tick : ℕ) (items
         alike = subst (λ (after : List RowView). AreAlike after rows table rest) rows_now
             (λ k d inside. row_at-settled_other now key tick one.outcome _ (head_apart table item rest (subst AreApart behind (apart_behind items i apart)) k d inside)
             ∙ All-tail (λ item. row_at now (item_key table item) ≡ row_at rows (item_key table item)) item rest alike_here k d inside);
-        count = omega (arith, planned.count, length-append changes (change ∷ []));
+        keys = keys_more changes change (map (item_key table) (take i items)) key planned.keys (sym (ap change_key (sym one.made) ∙ key_of_change key tick one.outcome))
+            ∙ (ap (λ x. map (item_key table) (take i items) ++ item_key table x ∷ []) here ∙ sym (map_more (item_key table) items i item within));
+        ticks = All-push (HasTick tick) changes change planned.ticks (subst (HasTick tick) one.made (tick_of_change key tick one.outcome));
       }
 
 pub planned_all : (rows : List RowView) (changes : List Change) (table tick : ℕ) (items : List ItemView) (i : ℕ) → length items ≤ i → Planned rows changes table tick items i → group_outcome rows table tick items ≡ Ok (applied rows changes)
 planned_all rows changes table tick items i end planned = planned.so_far ∙ ap (rows_after i (applied rows changes) table tick) (drop_all i items end)
+
+pub planned_keys : (rows : List RowView) (changes : List Change) (table tick : ℕ) (items : List ItemView) (i : ℕ) → length items ≤ i → Planned rows changes table tick items i → map change_key changes ≡ group_keys table items
+planned_keys rows changes table tick items i end planned = planned.keys ∙ ap (map (item_key table)) (take_all i items end)
+
+pub planned_count : (rows : List RowView) (changes : List Change) (table tick : ℕ) (items : List ItemView) (i : ℕ) → length items ≤ i → Planned rows changes table tick items i → length changes ≡ length items
+planned_count rows changes table tick items i end planned =
+    sym (length-map changes change_key) ∙ (ap length (planned_keys rows changes table tick items i end planned) ∙ length-map items (item_key table))

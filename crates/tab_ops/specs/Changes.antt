@@ -1,5 +1,5 @@
 -- What operations and groups of them make of rows.
-use Rattle.std.specs.Prelude.{ℕ, ◌+◌, List, [], ◌∷◌, ◌++◌, length, map, filter, Bool, true, ◌==◌, nat_lt, if◌then◌else◌, Option, Some, None, Result, Ok, Err}
+use Rattle.std.specs.Prelude.{◌≡◌, ℕ, ◌+◌, List, [], ◌∷◌, ◌++◌, length, map, filter, Bool, true, ◌==◌, nat_lt, if◌then◌else◌, Option, Some, None, Result, Ok, Err, ⊤}
 use Rattle.tab_keys.specs.declared.keys.Key.{Key}
 use Rattle.tab_edm.specs.Entities.{EntityView, name_lt, entity_size}
 use Rattle.tab_edm.specs.declared.values.Property.{Property}
@@ -114,3 +114,13 @@ as_change key tick (Err refusal) = Err refusal
 abbrev pub change_of : ℕ → List RowView → ℕ → ℕ → ItemView → Result Change OpRefused
 change_of index rows table tick item =
     as_change (item_key table item) tick (outcome_of index (row_at rows (item_key table item)) item.op)
+
+-- the key of the row that a change is of
+abbrev pub change_key : Change → Key
+change_key (Put row) = row.key
+change_key (Take key) = key
+
+-- a row that is put has this tick
+abbrev pub HasTick : ℕ → Change → Type 0
+HasTick tick (Put row) = row.tick ≡ tick
+HasTick tick (Take key) = ⊤

@@ -1,9 +1,10 @@
 -- What groups of operations do, whatever the rows.
-use Rattle.std.specs.Prelude.{◌≡◌, ℕ, ◌⊎◌, List, Contains, Option, Some, None, Ok}
+use Rattle.std.specs.Prelude.{◌≡◌, ℕ, ◌⊎◌, List, Contains, Option, Some, None, Ok, Err, slice_get}
 use Rattle.tab_keys.specs.declared.keys.Key.{Key}
 use Rattle.tab_edm.specs.Entities.{EntityView}
 use Rattle.tab_rows.specs.Rows.{RowView, row_at}
 use Rattle.tab_ops.specs.Groups.{ItemView, item_key}
+use Rattle.tab_ops.specs.declared.groups.OpRefused.{OpRefused}
 use Rattle.tab_ops.specs.Changes.{outcome_of, group_keys}
 
 -- what stands at a key after it was made this, with this tick
@@ -20,3 +21,10 @@ pub record SawRowsBefore (rows after : List RowView) (table tick index : ℕ) (i
   pub outcome : Option EntityView
   pub is : outcome_of index (row_at rows (item_key table item)) item.op ≡ Ok outcome
   pub stands : row_at after (item_key table item) ≡ row_made (item_key table item) tick outcome
+
+-- an item of the group is refused so, and acts on these rows
+pub record IsRefusedByItem (rows : List RowView) (table : ℕ) (group : List ItemView) (why : OpRefused) : Type 0 where
+  pub place : ℕ
+  pub item : ItemView
+  pub here : slice_get group place ≡ Some item
+  pub refused : outcome_of place (row_at rows (item_key table item)) item.op ≡ Err why

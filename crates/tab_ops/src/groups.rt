@@ -1,4 +1,4 @@
-ghost use Rattle.std.specs.Prelude.{◌≡◌, ◌≢◌, [], ◌∷◌, Ok, Err, None, MatchResult, IfOk, IfNone, All, IsFalse, bytes_eq};
+ghost use Rattle.std.specs.Prelude.{◌≡◌, [], ◌∷◌, None, IfOk, IfNone, All, IsFalse, bytes_eq};
 ghost use Rattle.std.specs.List.{list_any};
 ghost use Rattle.std.specs.Ordering.{is_eq};
 ghost use Rattle.tab_keys.specs.Order.{text_cmp};
@@ -94,9 +94,7 @@ impl Model for Group {
 impl Group {
     /// The group of these operations. This takes no memory.
     pub fn new(items: Vec<Item>) -> Result<Group, GroupRefused>
-        ensures { MatchResult result
-            (λ group. grouped items.items ≡ Ok group)
-            (λ why. why ≢ GroupRefused.Memory → grouped items.items ≡ Err why) }
+        ensures { result ≡ grouped items.items }
     {
         match group_refusal(items.as_slice()) {
             None => Ok(Group { items }),

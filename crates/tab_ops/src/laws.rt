@@ -1,17 +1,25 @@
 //! Laws of groups, each the contract of a function that does nothing.
-ghost use Rattle.std.specs.Prelude.{◌≡◌, ℕ, List, ◌∷◌, All, IsFalse, None, Some, Ok, Err, slice_get};
+ghost use Rattle.std.specs.Prelude.{◌≡◌, ℕ, List, ◌∷◌, All, IsFalse, None, Some, Ok, Err, IsOk, slice_get};
 ghost use Rattle.tab_keys.specs.Order.{same_key};
 ghost use Rattle.tab_keys.specs.declared.keys.Key.{Key};
 ghost use Rattle.tab_rows.specs.Rows.{RowView, AreRising, row_at};
 ghost use Rattle.tab_ops.specs.Groups.{ItemView, AreApart, group_refusal};
 ghost use Rattle.tab_ops.specs.Changes.{group_outcome, group_keys};
-ghost use Rattle.tab_ops.specs.Laws.{IsKeptOrPut, SawRowsBefore};
+ghost use Rattle.tab_ops.specs.Laws.{IsKeptOrPut, SawRowsBefore, IsRefusedByItem};
 ghost use Rattle.tab_ops.specs.declared.groups.OpRefused.{OpRefused};
 
 /// Whether a group is refused, and why, does not depend on the tick that it would have.
-pub fn refusals_do_not_depend_on_the_tick()
-    ensures { (rows : List RowView) (table tick other : ℕ) (group : List ItemView) (why : OpRefused) → AreApart group
+pub fn groups_are_judged_without_their_tick()
+    ensures refused { (rows : List RowView) (table tick other : ℕ) (group : List ItemView) (why : OpRefused) → AreApart group
         → group_outcome rows table tick group ≡ Err why → group_outcome rows table other group ≡ Err why }
+    ensures accepted { (rows after : List RowView) (table tick other : ℕ) (group : List ItemView) → AreApart group
+        → group_outcome rows table tick group ≡ Ok after → IsOk (group_outcome rows table other group) }
+{}
+
+/// A group is refused as one of its operations is, which acts on the rows as they were before the group.
+pub fn groups_are_refused_by_an_item()
+    ensures { (rows : List RowView) (table tick : ℕ) (group : List ItemView) (why : OpRefused) → AreApart group
+        → group_outcome rows table tick group ≡ Err why → IsRefusedByItem rows table group why }
 {}
 
 /// Rows in rising order are so after a group.

@@ -8,12 +8,14 @@ mod merges;
 mod ops;
 mod outcomes;
 mod plans;
+#[cfg(test)]
+mod tests;
 
 pub use groups::{Group, GroupRefused, OpRefused};
 pub use laws::{
-    groups_act_in_one_partition, groups_give_their_keys_one_tick, groups_keep_order,
+    groups_act_in_one_partition, groups_are_judged_without_their_tick,
+    groups_are_refused_by_an_item, groups_give_their_keys_one_tick, groups_keep_order,
     groups_leave_other_keys, items_see_the_rows_before_their_group,
-    refusals_do_not_depend_on_the_tick,
 };
 pub use ops::{Item, Match, Op};
 pub use plans::{ChangeList, Changes, plan};

@@ -1,6 +1,6 @@
-ghost use Rattle.std.specs.Prelude.{◌≡◌, ◌≢◌, ◌≤◌, length, Ok, Err, MatchResult, IfOk};
+ghost use Rattle.std.specs.Prelude.{◌≡◌, ◌≢◌, ◌≤◌, length, map, All, Ok, Err, MatchResult, IfOk};
 ghost use Rattle.tab_edm.specs.declared.TheConstants.{GREATEST};
-ghost use Rattle.tab_ops.specs.Changes.{group_outcome, applied, change_of};
+ghost use Rattle.tab_ops.specs.Changes.{group_outcome, group_keys, applied, change_of, change_key, HasTick};
 
 use crate::outcomes::outcome_of;
 use crate::{Group, Item, OpRefused};
@@ -104,6 +104,8 @@ pub fn plan(
         (λ why. why ≢ OpRefused.Memory → group_outcome rows.now.rows table tick group.now ≡ Err why) }
     ensures tick { IfOk result (λ changes. changes.tick ≡ tick) }
     ensures each { IfOk result (λ changes. length changes.list ≡ length group.now) }
+    ensures keys { IfOk result (λ changes. map change_key changes.list ≡ group_keys table group.now) }
+    ensures put { IfOk result (λ changes. All (HasTick tick) changes.list) }
 {
     let items = group.items();
     let mut changes = Vec::with_capacity(alloc, items.len())?;
