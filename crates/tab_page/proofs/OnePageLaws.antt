@@ -1,0 +1,407 @@
+-- What one page has of the rows of a world, where its next page begins, and that no row is lost between the two.
+use Rattle.std.proofs.Common.{◌≡◌, ℕ, zero, suc, ◌<◌, List, [], ◌∷◌, ◌++◌, Bool, true, false, cond, not, ◌&&◌, ◌==◌, length, get_or, take, drop, filter, Contains, All, AllPairs, refl, sym, ap, ◌∙◌, subst, inl, inr, ◌⊎◌, ⊎_elim, arith}
+use Rattle.std.specs.Prelude.{Option, Some, None, IsTrue, unwrap_or}
+use Rattle.std.proofs.lemmas.Bool.{true≢false, and_parts, and_from, eqb-true, eq-eqb, not-true}
+use Rattle.std.proofs.lemmas.List.{take-append-drop}
+use Rattle.std.proofs.lemmas.List.Elements.{All-nil, All-cons, All-head, All-tail, All-append, All-contains, filter_passes, Contains-append_left, Contains-append_right, Contains-append_cases}
+use Rattle.std.proofs.lemmas.List.Kept.{AllPairs-cons, AllPairs-filter}
+use Rattle.std.proofs.lemmas.Option.{none-some, same_Some}
+use Rattle.std.specs.declared.cmp.Ordering.{Ordering}
+use Rattle.std.specs.declared.cmp.Ordering.TheVariants.{Less, Equal, Greater}
+use Rattle.std.specs.Ordering.{ordering_then, is_lt, is_eq, nat_cmp}
+use Rattle.std.specs.Cmp.{nat_cmp_is, unsigned_Decides, unsigned_ties}
+use Rattle.tab_keys.specs.Order.{text_cmp, key_cmp, key_lt, head_key, is_before, bound_lt}
+use Rattle.tab_keys.specs.declared.keys.Key.{Key}
+use Rattle.tab_keys.specs.declared.bounds.Bound.{Bound}
+use Rattle.tab_keys.specs.declared.bounds.Bound.TheVariants.{At, End}
+use Rattle.tab_keys.proofs.OrderLaws.{key_lt_irreflexive, key_lt_transitive, key_lt_asymmetric, key_lt_across, key_lt_from_le, is_before_At}
+use Rattle.tab_rows.specs.Rows.{RowView, AreRising}
+use Rattle.tab_filter.specs.Trees.{Tree}
+use Rattle.tab_filter.specs.Windows.{WindowView, has, reaches}
+use Rattle.tab_filter.proofs.WindowLaws.{within_window}
+use Rattle.tab_filter.proofs.WindowEdges.{starts_low, reaches_up_to}
+use Rattle.tab_page.specs.Pages.{seen, passes, matches, window_for, window, key_at, later_key, corner, start_key, lesser, end_above, is_listed, next_of, listed, page_up_to, page_of, page_below, looked_at}
+use Rattle.tab_page.specs.declared.pages.Options.{Options}
+use Rattle.tab_page.specs.declared.pages.Page.{Page}
+
+-- ---- lists whose elements rise
+
+module _ {X : Type 0} where
+  pub Contains-here : (x : X) (xs : List X) → Contains (x ∷ xs) x
+  Contains-here x xs = (zero, omega arith, refl)
+
+  pub Contains-there : (x y : X) (xs : List X) → Contains xs y → Contains (x ∷ xs) y
+  Contains-there x y xs h = (suc h.0, (let below : h.0 < length xs = h.1 in omega arith), h.2)
+
+  pub Contains-cons_cases : (x y : X) (xs : List X) → Contains (x ∷ xs) y → (x ≡ y) ⊎ Contains xs y
+  Contains-cons_cases x y xs h = by_place h.0 h.1 h.2
+    where
+      by_place : (k : ℕ) → k < length (x ∷ xs) → get_or (x ∷ xs) k y ≡ y → (x ≡ y) ⊎ Contains xs y
+      by_place zero within e = inl e
+      by_place (suc k) within e = inr (k, omega arith, e)
+
+  pub Contains-nil : (y : X) → Contains [] y → ⊥
+  Contains-nil y h = let below : h.0 < 0 = h.1 in omega arith
+
+  pub Contains-filter : (p : X → Bool) (xs : List X) (x : X) → Contains xs x → p x ≡ true → Contains (filter p xs) x
+  Contains-filter p [] x h k = h
+  Contains-filter p (y ∷ ys) x h k = by_test (λ g. Contains-filter p ys x g k) (p y) refl
+    where
+      by_test : (Contains ys x → Contains (filter p ys) x) → (b : Bool) → p y ≡ b → Contains (cond b (y ∷ filter p ys) (filter p ys)) x
+      by_test later true e = ⊎_elim (λ same. subst (λ z. Contains (y ∷ filter p ys) z) same (Contains-here y (filter p ys))) (λ g. Contains-there y x (filter p ys) (later g)) (Contains-cons_cases y x ys h)
+      by_test later false e = ⊎_elim (λ same. absurd (true≢false (sym k ∙ (ap p (sym same) ∙ e)))) later (Contains-cons_cases y x ys h)
+
+  pub Contains-filtered : (p : X → Bool) (xs : List X) (x : X) → Contains (filter p xs) x → Contains xs x × (p x ≡ true)
+  Contains-filtered p xs x h = (within xs h, All-contains (λ y. p y ≡ true) (filter p xs) x (filter_passes p xs) h)
+    where
+      within : (ys : List X) → Contains (filter p ys) x → Contains ys x
+      within [] g = g
+      within (y ∷ ys) g = by_test (within ys) (p y) g
+        where
+          by_test : (Contains (filter p ys) x → Contains ys x) → (b : Bool) → Contains (cond b (y ∷ filter p ys) (filter p ys)) x → Contains (y ∷ ys) x
+          by_test rest true k = ⊎_elim (λ same. subst (λ z. Contains (y ∷ ys) z) same (Contains-here y ys)) (λ later. Contains-there y x ys (rest later)) (Contains-cons_cases y x (filter p ys) k)
+          by_test rest false k = Contains-there y x ys (rest k)
+
+  -- an element stands before a place or behind it
+  pub Contains-cut : (n : ℕ) (xs : List X) (x : X) → Contains xs x → Contains (take n xs) x ⊎ Contains (drop n xs) x
+  Contains-cut n xs x h = Contains-append_cases (take n xs) (drop n xs) x (subst (λ ys. Contains ys x) (sym (take-append-drop n xs)) h)
+
+  pub Contains-take : (n : ℕ) (xs : List X) (x : X) → Contains (take n xs) x → Contains xs x
+  Contains-take n xs x h = subst (λ ys. Contains ys x) (take-append-drop n xs) (Contains-append_left (take n xs) (drop n xs) x h)
+
+  pub Contains-drop : (n : ℕ) (xs : List X) (x : X) → Contains (drop n xs) x → Contains xs x
+  Contains-drop n xs x h = subst (λ ys. Contains ys x) (take-append-drop n xs) (Contains-append_right (take n xs) (drop n xs) x h)
+
+  -- what holds of all elements, where the proof names the element
+  pub All-from_each : (P : X → Type 0) (xs : List X) → ((x : X) → Contains xs x → P x) → All P xs
+  All-from_each P [] h = All-nil P
+  All-from_each P (x ∷ xs) h = All-cons P x xs (h x (Contains-here x xs)) (All-from_each P xs (λ y k. h y (Contains-there x y xs k)))
+
+module _ {X : Type 0} (R : X → X → Type 0) where
+  pub AllPairs-nil : AllPairs R []
+  AllPairs-nil i j d below within = absurd (omega arith)
+
+  pub AllPairs-head : (x : X) (xs : List X) → AllPairs R (x ∷ xs) → All (R x) xs
+  AllPairs-head x xs h k d within = h zero (suc k) d (omega arith) (omega arith)
+
+  pub AllPairs-tail : (x : X) (xs : List X) → AllPairs R (x ∷ xs) → AllPairs R xs
+  AllPairs-tail x xs h i j d below within = h (suc i) (suc j) d (omega arith) (omega arith)
+
+  pub AllPairs-append : (xs ys : List X) → AllPairs R xs → AllPairs R ys → All (λ x. All (R x) ys) xs → AllPairs R (xs ++ ys)
+  AllPairs-append [] ys h k across = k
+  AllPairs-append (x ∷ xs) ys h k across =
+      AllPairs-cons R x (xs ++ ys) (All-append (R x) xs ys (AllPairs-head x xs h) (All-head (λ y. All (R y) ys) x xs across))
+      (AllPairs-append xs ys (AllPairs-tail x xs h) k (All-tail (λ y. All (R y) ys) x xs across))
+
+  pub AllPairs-front : (xs ys : List X) → AllPairs R (xs ++ ys) → AllPairs R xs
+  AllPairs-front [] ys h = AllPairs-nil
+  AllPairs-front (x ∷ xs) ys h =
+      AllPairs-cons R x xs (All-from_each (R x) xs (λ y k. All-contains (R x) (xs ++ ys) y (AllPairs-head x (xs ++ ys) h) (Contains-append_left xs ys y k)))
+      (AllPairs-front xs ys (AllPairs-tail x (xs ++ ys) h))
+
+  pub AllPairs-back : (xs ys : List X) → AllPairs R (xs ++ ys) → AllPairs R ys
+  AllPairs-back [] ys h = h
+  AllPairs-back (x ∷ xs) ys h = AllPairs-back xs ys (AllPairs-tail x (xs ++ ys) h)
+
+  -- each element of the front is below each of the back
+  pub AllPairs-across : (xs ys : List X) → AllPairs R (xs ++ ys) → (x y : X) → Contains xs x → Contains ys y → R x y
+  AllPairs-across [] ys h x y k l = absurd (Contains-nil x k)
+  AllPairs-across (z ∷ xs) ys h x y k l =
+      ⊎_elim
+      (λ same. subst (λ w. R w y) same (All-contains (R z) (xs ++ ys) y (AllPairs-head z (xs ++ ys) h) (Contains-append_right xs ys y l)))
+      (λ later. AllPairs-across xs ys (AllPairs-tail z (xs ++ ys) h) x y later l)
+      (Contains-cons_cases z x xs k)
+
+  -- pairs of elements of which something holds
+  pub AllPairs-weaker : (S : X → X → Type 0) (P : X → Type 0) → ((x y : X) → P x → P y → R x y → S x y) → (xs : List X) → All P xs → AllPairs R xs → AllPairs S xs
+  AllPairs-weaker S P f [] h k = λ i j d below within. absurd (omega arith)
+  AllPairs-weaker S P f (x ∷ xs) h k =
+      AllPairs-cons S x xs
+      (All-from_each (S x) xs (λ y l. f x y (All-head P x xs h) (All-contains P xs y (All-tail P x xs h) l) (All-contains (R x) xs y (AllPairs-head x xs k) l)))
+      (AllPairs-weaker S P f xs (All-tail P x xs h) (AllPairs-tail x xs k))
+
+-- ---- places
+
+-- one place is below another, by partition key and then by row key
+abbrev pub place_lt : List ℕ × List ℕ → List ℕ × List ℕ → Bool
+place_lt a b = is_lt (ordering_then (text_cmp a.0 b.0) (text_cmp a.1 b.1))
+
+abbrev pub place_of : Key → List ℕ × List ℕ
+place_of key = (key.pk, key.rk)
+
+-- the place at which the options begin
+abbrev pub start_place : Options → List ℕ × List ℕ
+start_place options = unwrap_or options.start ([], [])
+
+-- keys of one table compare as their places
+pub key_lt_in_table : (a b : Key) → a.table ≡ b.table → key_lt a b ≡ place_lt (place_of a) (place_of b)
+unfolding key_cmp
+key_lt_in_table a b e = ap (λ (r : Ordering). is_lt (ordering_then r (ordering_then (text_cmp a.pk b.pk) (text_cmp a.rk b.rk)))) (sym (nat_cmp_is a.table b.table Equal e))
+
+-- ---- where a page begins and ends
+
+not_before_later : (a b key : Key) → key_lt key (later_key a b) ≡ false → (key_lt key a ≡ false) × (key_lt key b ≡ false)
+not_before_later a b key h = by_test (key_lt a b) refl
+  where
+    not_below : (c d : Key) → key_lt c d ≡ true → key_lt key d ≡ false → key_lt key c ≡ false
+    not_below c d low high = by_lower (key_lt key c) refl
+      where
+        by_lower : (t : Bool) → key_lt key c ≡ t → key_lt key c ≡ false
+        by_lower true e = absurd (true≢false (sym (key_lt_transitive key c d e low) ∙ high))
+        by_lower false e = e
+
+    by_test : (t : Bool) → key_lt a b ≡ t → (key_lt key a ≡ false) × (key_lt key b ≡ false)
+    by_test true e = let k : key_lt key b ≡ false = ap (λ t. key_lt key (cond t b a)) (sym e) ∙ h in (not_below a b e k, k)
+    by_test false e =
+        let k : key_lt key a ≡ false = ap (λ t. key_lt key (cond t b a)) (sym e) ∙ h in (k, not_behind k (key_lt key b) refl)
+      where
+        not_behind : key_lt key a ≡ false → (t : Bool) → key_lt key b ≡ t → key_lt key b ≡ false
+        not_behind k true f = absurd (true≢false (sym (key_lt_from_le a key b k f) ∙ e))
+        not_behind k false f = f
+
+later_not_before : (a b key : Key) → key_lt key a ≡ false → key_lt key b ≡ false → key_lt key (later_key a b) ≡ false
+later_not_before a b key h k = by_test (key_lt a b)
+  where
+    by_test : (t : Bool) → key_lt key (cond t b a) ≡ false
+    by_test true = k
+    by_test false = h
+
+module _ (table : ℕ) (options : Options) where
+  -- the page begins in the table
+  pub start_table : (start_key table options).table ≡ table
+  unfolding start_key
+  start_table = by_test (key_lt (key_at table (start_place options)) (key_at table (corner (window options))))
+    where
+      by_test : (t : Bool) → (cond t (key_at table (corner (window options))) (key_at table (start_place options))).table ≡ table
+      by_test true = refl
+      by_test false = refl
+
+  -- and not before the options do
+  pub start_after : key_lt (start_key table options) (key_at table (start_place options)) ≡ false
+  unfolding start_key
+  start_after =
+      (not_before_later (key_at table (start_place options)) (key_at table (corner (window options))) (start_key table options) (key_lt_irreflexive (start_key table options))).0
+
+  -- a key of the table that is not before the page's start is not before the options' either
+  pub place_from_start : (key : Key) → key.table ≡ table → key_lt key (start_key table options) ≡ false → place_lt (place_of key) (start_place options) ≡ false
+  unfolding start_key
+  place_from_start key e h =
+      sym (key_lt_in_table key (key_at table (start_place options)) e)
+      ∙ (not_before_later (key_at table (start_place options)) (key_at table (corner (window options))) key h).0
+
+passes_inside : (filter : Option Tree) (row : RowView) → passes filter row ≡ true → has (window_for filter) row.key.pk row.key.rk ≡ true
+passes_inside None row h = refl
+passes_inside (Some tree) row h = within_window tree (seen row) h
+
+-- a row that the query asks for lies in its window
+pub matches_inside : (options : Options) (row : RowView) → matches options row ≡ true → has (window options) row.key.pk row.key.rk ≡ true
+matches_inside options row h = passes_inside options.filter row h
+
+-- and from the page's start on, where it is from the options' on
+pub start_from_place : (table : ℕ) (options : Options) (row : RowView) → row.key.table ≡ table → matches options row ≡ true → place_lt (place_of row.key) (start_place options) ≡ false → key_lt row.key (start_key table options) ≡ false
+unfolding start_key
+start_from_place table options row e h k =
+    later_not_before (key_at table (start_place options)) (key_at table (corner (window options))) row.key
+    (key_lt_in_table row.key (key_at table (start_place options)) e ∙ k)
+    (key_lt_in_table row.key (key_at table (corner (window options))) e ∙ starts_low (window options) row.key.pk row.key.rk (matches_inside options row h))
+
+behind_lesser : (key : Key) (a b : Bound) → is_before key a ≡ true → is_before key b ≡ true → is_before key (lesser a b) ≡ true
+behind_lesser key a b h k = by_test (bound_lt b a)
+  where
+    by_test : (t : Bool) → is_before key (cond t b a) ≡ true
+    by_test true = k
+    by_test false = h
+
+-- the least bound above a key is above it
+pub end_above-behind : (key : Key) (bounds : List Bound) → is_before key (end_above key bounds) ≡ true
+end_above-behind key [] = refl
+end_above-behind key (bound ∷ bounds) = by_test (end_above-behind key bounds) (is_before key bound) refl
+  where
+    by_test : is_before key (end_above key bounds) ≡ true → (t : Bool) → is_before key bound ≡ t → is_before key (cond t (lesser bound (end_above key bounds)) (end_above key bounds)) ≡ true
+    by_test rest true e = behind_lesser key bound (end_above key bounds) e rest
+    by_test rest false e = rest
+
+-- ---- the rows that a page may look at
+
+-- what the test of a listed row says
+pub record IsListed (table : ℕ) (all : WindowView) (start : Key) (end : Bound) (row : RowView) : Type 0 where
+  pub in_table : row.key.table ≡ table
+  pub from : key_lt row.key start ≡ false
+  pub below : is_before row.key end ≡ true
+  pub inside : has all row.key.pk row.key.rk ≡ true
+
+pub listed_parts : (table : ℕ) (all : WindowView) (start : Key) (end : Bound) (row : RowView) → is_listed table all start end row ≡ true → IsListed table all start end row
+listed_parts table all start end row h =
+    let a = and_parts (row.key.table == table && not (key_lt row.key start) && is_before row.key end) (has all row.key.pk row.key.rk) h in
+    let b = and_parts (row.key.table == table && not (key_lt row.key start)) (is_before row.key end) a.0 in
+    let c = and_parts (row.key.table == table) (not (key_lt row.key start)) b.0 in
+    record { in_table = eqb-true row.key.table table c.0; from = not-true (key_lt row.key start) c.1; below = b.1; inside = a.1 }
+
+pub listed_from : (table : ℕ) (all : WindowView) (start : Key) (end : Bound) (row : RowView) → IsListed table all start end row → is_listed table all start end row ≡ true
+listed_from table all start end row h =
+    and_from (row.key.table == table && not (key_lt row.key start) && is_before row.key end) (has all row.key.pk row.key.rk)
+    (and_from (row.key.table == table && not (key_lt row.key start)) (is_before row.key end)
+    (and_from (row.key.table == table) (not (key_lt row.key start)) (eq-eqb row.key.table table h.in_table) (ap not h.from)) h.below) h.inside
+
+-- ---- where the next page begins
+
+abbrev Rises : RowView → RowView → Type 0
+Rises a b = IsTrue (key_lt a.key b.key)
+
+-- with no row left it begins at the end, in the table
+at_end : (table : ℕ) (all : WindowView) (end : Bound) (token : List ℕ × List ℕ) → next_of table all end [] ≡ Some token → (pk : List ℕ) × (end ≡ At table pk) × (token ≡ (pk, []))
+at_end table all (At other pk) token h = by_test (other == table && reaches all pk) refl h
+  where
+    by_test : (t : Bool) → (other == table && reaches all pk) ≡ t → cond t (Some (pk, [])) None ≡ Some token → (key : List ℕ) × (At other pk ≡ At table key) × (token ≡ (key, []))
+    by_test true e k = (pk, ap (λ number. At number pk) (eqb-true other table (and_parts (other == table) (reaches all pk) e).0), sym (same_Some (pk, []) token k))
+    by_test false e k = absurd (none-some token k)
+at_end table all End token h = absurd (none-some token h)
+
+-- one table lies between a key of its own before a bound and another past it
+between : (table other : ℕ) (o : Ordering) → nat_cmp table other ≡ o → (a b : Ordering) → is_lt (ordering_then o a) ≡ true → is_lt (ordering_then o b) ≡ false → (nat_cmp table other ≡ Equal) × (is_lt b ≡ false)
+between table other Less e a b h k = absurd (true≢false k)
+between table other Equal e a b h k = (e, k)
+between table other Greater e a b h k = absurd (true≢false (sym h))
+
+-- a row of the table and the window that is past the end, where the start is not
+past_end : (table : ℕ) (all : WindowView) (start : Key) (end : Bound) → start.table ≡ table → is_before start end ≡ true → (row : RowView) → row.key.table ≡ table → has all row.key.pk row.key.rk ≡ true → is_before row.key end ≡ false
+    → (token : List ℕ × List ℕ) × (next_of table all end [] ≡ Some token) × (place_lt (place_of row.key) token ≡ false)
+past_end table all start End starts behind row e inside past = absurd (true≢false past)
+past_end table all start (At other pk) starts behind row e inside past =
+    let low : is_lt (ordering_then (nat_cmp table other) (text_cmp start.pk pk)) ≡ true = subst (λ number. is_lt (ordering_then (nat_cmp number other) (text_cmp start.pk pk)) ≡ true) starts (sym (is_before_At start other pk) ∙ behind) in
+    let high : is_lt (ordering_then (nat_cmp table other) (text_cmp row.key.pk pk)) ≡ false = subst (λ number. is_lt (ordering_then (nat_cmp number other) (text_cmp row.key.pk pk)) ≡ false) e (sym (is_before_At row.key other pk) ∙ past) in
+    let parts = between table other (nat_cmp table other) refl (text_cmp start.pk pk) (text_cmp row.key.pk pk) low high in
+    let same : table ≡ other = (unsigned_Decides table other).0 (unsigned_ties table other ∙ ap is_eq parts.0) in
+    ((pk, []), rw (eq-eqb other table (sym same), reaches_up_to all row.key.pk row.key.rk pk inside parts.1) refl, sym (key_lt_in_table row.key (head_key other pk) (e ∙ same)) ∙ past)
+
+module _ (table : ℕ) (all : WindowView) (start : Key) (end : Bound) where
+  abbrev Lists : RowView → Type 0
+  Lists row = IsListed table all start end row
+
+  -- each row before it is below it
+  next_below : (front back : List RowView) → AllPairs Rises (front ++ back) → ((row : RowView) → Contains front row → Lists row) → ((row : RowView) → Contains back row → Lists row)
+      → (token : List ℕ × List ℕ) → next_of table all end back ≡ Some token → (row : RowView) → Contains front row → place_lt (place_of row.key) token ≡ true
+  next_below front (first ∷ back) rising f b token h row within =
+      subst (λ place. place_lt (place_of row.key) place ≡ true) (same_Some (place_of first.key) token h)
+      (sym (key_lt_in_table row.key first.key ((f row within).in_table ∙ sym (b first (Contains-here first back)).in_table))
+      ∙ AllPairs-across Rises front (first ∷ back) rising row first within (Contains-here first back))
+  next_below front [] rising f b token h row within =
+      let at = at_end table all end token h in
+      subst (λ place. place_lt (place_of row.key) place ≡ true) (sym at.2)
+      (sym (key_lt_in_table row.key (head_key table at.0) (f row within).in_table) ∙ subst (λ e. is_before row.key e ≡ true) at.1 (f row within).below)
+
+  -- it is not before the start
+  next_from : (place : List ℕ × List ℕ) → key_lt start (key_at table place) ≡ false → ((key : Key) → key.table ≡ table → key_lt key start ≡ false → place_lt (place_of key) place ≡ false) → is_before start end ≡ true
+      → (back : List RowView) → ((row : RowView) → Contains back row → Lists row) → (token : List ℕ × List ℕ) → next_of table all end back ≡ Some token → place_lt token place ≡ false
+  next_from place low from behind (first ∷ back) b token h =
+      let listed = b first (Contains-here first back) in
+      subst (λ t. place_lt t place ≡ false) (same_Some (place_of first.key) token h) (from first.key listed.in_table listed.from)
+  next_from place low from behind [] b token h =
+      let at = at_end table all end token h in
+      let head : key_lt start (head_key table at.0) ≡ true = subst (λ e. is_before start e ≡ true) at.1 behind in
+      subst (λ t. place_lt t place ≡ false) (sym at.2)
+      (sym (key_lt_in_table (head_key table at.0) (key_at table place) refl)
+      ∙ key_lt_asymmetric (key_at table place) (head_key table at.0) (key_lt_from_le (key_at table place) start (head_key table at.0) low head))
+
+  -- what stands among the rows left is not below it
+  next_first : (back : List RowView) → AllPairs Rises back → ((row : RowView) → Contains back row → Lists row) → (row : RowView) → Contains back row
+      → (token : List ℕ × List ℕ) × (next_of table all end back ≡ Some token) × (place_lt (place_of row.key) token ≡ false)
+  next_first [] rising b row within = absurd (Contains-nil row within)
+  next_first (first ∷ back) rising b row within = (place_of first.key, refl, sym (key_lt_in_table row.key first.key tables) ∙ not_below (Contains-cons_cases first row back within))
+    where
+      tables : row.key.table ≡ first.key.table
+      tables = (b row within).in_table ∙ sym (b first (Contains-here first back)).in_table
+
+      not_below : (first ≡ row) ⊎ Contains back row → key_lt row.key first.key ≡ false
+      not_below (inl same) = subst (λ (other : RowView). key_lt other.key first.key ≡ false) same (key_lt_irreflexive first.key)
+      not_below (inr later) = key_lt_asymmetric first.key row.key (All-contains (Rises first) back row (AllPairs-head Rises first back rising) later)
+
+  -- nor is what stands past the end, in the table and the window
+  next_past : start.table ≡ table → is_before start end ≡ true → (back : List RowView) → ((row : RowView) → Contains back row → Lists row)
+      → (row : RowView) → row.key.table ≡ table → has all row.key.pk row.key.rk ≡ true → is_before row.key end ≡ false
+      → (token : List ℕ × List ℕ) × (next_of table all end back ≡ Some token) × (place_lt (place_of row.key) token ≡ false)
+  next_past starts behind (first ∷ back) b row e inside past =
+      let listed = b first (Contains-here first back) in
+      (place_of first.key, refl, sym (key_lt_in_table row.key first.key (e ∙ sym listed.in_table)) ∙ key_lt_asymmetric first.key row.key (key_lt_across first.key row.key end listed.below past))
+  next_past starts behind [] b row e inside past = past_end table all start end starts behind row e inside past
+
+-- ---- one page
+
+-- what a page has of the rows
+pub record OnePage (rows : List RowView) (table : ℕ) (options : Options) (page : Page) : Type 0 where
+  -- its rows rise
+  pub rising : AllPairs (λ a b. IsTrue (place_lt (place_of a.key) (place_of b.key))) page.rows
+  -- each is one of the table's rows that the query asks for
+  pub right : (row : RowView) → Contains page.rows row → Contains rows row × (row.key.table ≡ table) × (matches options row ≡ true)
+  -- from the place on at which the options begin
+  pub from : (row : RowView) → Contains page.rows row → place_lt (place_of row.key) (start_place options) ≡ false
+  -- and below the place at which the next page begins
+  pub below : (token : List ℕ × List ℕ) → page.next ≡ Some token → (row : RowView) → Contains page.rows row → place_lt (place_of row.key) token ≡ true
+  -- the next page does not begin before this one
+  pub ahead : (token : List ℕ × List ℕ) → page.next ≡ Some token → place_lt token (start_place options) ≡ false
+  -- each of the table's rows that the query asks for, from the options' start on, is on the page or not below the next one
+  pub whole : (row : RowView) → Contains rows row → row.key.table ≡ table → matches options row ≡ true → place_lt (place_of row.key) (start_place options) ≡ false
+      → Contains page.rows row ⊎ ((token : List ℕ × List ℕ) × (page.next ≡ Some token) × (place_lt (place_of row.key) token ≡ false))
+
+module _ (rows : List RowView) (rising : AreRising rows) (table : ℕ) (options : Options) (end : Bound) (behind : is_before (start_key table options) end ≡ true) (n : ℕ) where
+  abbrev all : WindowView
+  all = window options
+
+  abbrev start : Key
+  start = start_key table options
+
+  abbrev list : List RowView
+  list = filter (is_listed table all start end) rows
+
+  lists : (row : RowView) → Contains list row → IsListed table all start end row
+  lists row within = listed_parts table all start end row (Contains-filtered (is_listed table all start end) rows row within).1
+
+  list_rises : AllPairs Rises (take n list ++ drop n list)
+  list_rises = subst (AllPairs Rises) (sym (take-append-drop n list)) (AllPairs-filter Rises (is_listed table all start end) rows rising)
+
+  looked : (row : RowView) → Contains (filter (matches options) (take n list)) row → Contains (take n list) row × (matches options row ≡ true)
+  looked row within = Contains-filtered (matches options) (take n list) row within
+
+  front_lists : (row : RowView) → Contains (take n list) row → IsListed table all start end row
+  front_lists row within = lists row (Contains-take n list row within)
+
+  back_lists : (row : RowView) → Contains (drop n list) row → IsListed table all start end row
+  back_lists row within = lists row (Contains-drop n list row within)
+
+  found : (row : RowView) → Contains rows row → row.key.table ≡ table → matches options row ≡ true → place_lt (place_of row.key) (start_place options) ≡ false
+      → Contains (filter (matches options) (take n list)) row ⊎ ((token : List ℕ × List ℕ) × (next_of table all end (drop n list) ≡ Some token) × (place_lt (place_of row.key) token ≡ false))
+  found row within e m from = by_test (is_before row.key end) refl
+    where
+      inside : has all row.key.pk row.key.rk ≡ true
+      inside = matches_inside options row m
+
+      by_test : (t : Bool) → is_before row.key end ≡ t → Contains (filter (matches options) (take n list)) row ⊎ ((token : List ℕ × List ℕ) × (next_of table all end (drop n list) ≡ Some token) × (place_lt (place_of row.key) token ≡ false))
+      by_test true below =
+          let test : is_listed table all start end row ≡ true = listed_from table all start end row (record { in_table = e; from = start_from_place table options row e m from; below = below; inside = inside }) in
+          ⊎_elim
+          (λ front. inl (Contains-filter (matches options) (take n list) row front m))
+          (λ back. inr (next_first table all start end (drop n list) (AllPairs-back Rises (take n list) (drop n list) list_rises) back_lists row back))
+          (Contains-cut n list row (Contains-filter (is_listed table all start end) rows row within test))
+      by_test false past = inr (next_past table all start end (start_table table options) behind (drop n list) back_lists row e inside past)
+
+  pub one_page : OnePage rows table options (page_up_to table options end n (listed rows table options end))
+  unfolding page_up_to listed
+  one_page = record {
+    rising = AllPairs-filter (λ a b. IsTrue (place_lt (place_of a.key) (place_of b.key))) (matches options) (take n list)
+        (AllPairs-weaker Rises (λ a b. IsTrue (place_lt (place_of a.key) (place_of b.key))) (IsListed table all start end)
+        (λ a b f g h. sym (key_lt_in_table a.key b.key (f.in_table ∙ sym g.in_table)) ∙ h) (take n list) (All-from_each (IsListed table all start end) (take n list) front_lists)
+        (AllPairs-front Rises (take n list) (drop n list) list_rises));
+    right = λ row within. let test = looked row within in
+        ((Contains-filtered (is_listed table all start end) rows row (Contains-take n list row test.0)).0, (front_lists row test.0).in_table, test.1);
+    from = λ row within. let listed = front_lists row (looked row within).0 in place_from_start table options row.key listed.in_table listed.from;
+    below = λ token h row within. next_below table all start end (take n list) (drop n list) list_rises front_lists back_lists token h row (looked row within).0;
+    ahead = λ token h. next_from table all start end (start_place options) (start_after table options) (place_from_start table options) behind (drop n list) back_lists token h;
+    whole = found;
+  }
+
+-- so it is with the page that a query gets
+pub page_of-one : (rows : List RowView) → AreRising rows → (bounds : List Bound) (table : ℕ) (options : Options) → OnePage rows table options (page_of rows bounds table options)
+unfolding page_of page_below
+page_of-one rows rising bounds table options =
+    one_page rows rising table options (end_above (start_key table options) bounds) (end_above-behind (start_key table options) bounds)
+    (looked_at rows table options (end_above (start_key table options) bounds))
