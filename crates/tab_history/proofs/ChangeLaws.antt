@@ -1,10 +1,9 @@
 -- What an insert makes of the world.
-use Rattle.std.proofs.Common.{◌≡◌, ℕ, ◌+◌, ◌≤◌, ◌<◌, ◌⊎◌, max, get_or, cond, eq-eqb, List, [], ◌∷◌, Bool, true, false, refl, sym, ap, arith, inl, inr}
-use Rattle.std.specs.Prelude.{Option, Some, None, Result, Ok, Err, find, option_map, unwrap_or, if◌then◌else◌}
+use Rattle.std.proofs.Common.{◌≡◌, ℕ, ◌+◌, ◌≤◌, ◌<◌, ◌⊎◌, max, get_or, cond, eq-eqb, List, [], ◌∷◌, Bool, true, false, refl, arith, inl, inr}
+use Rattle.std.specs.Prelude.{Option, Some, None, Ok, Err, find, option_map, unwrap_or, if◌then◌else◌}
 use Rattle.std.proofs.lemmas.Bool.{cases_lt}
 use Rattle.std.specs.Cmp.{tied_itself}
-use Rattle.std.specs.Ordering.{is_eq}
-use Rattle.tab_keys.specs.Order.{key_cmp, same_key}
+use Rattle.tab_keys.specs.Order.{same_key}
 use Rattle.tab_keys.specs.declared.keys.Key.{Key}
 use Rattle.tab_keys.specs.Spans.{has}
 use Rattle.tab_keys.specs.TotalOrders.{key_cmp_total}

@@ -1,7 +1,22 @@
--- Histories put together.
-use Rattle.std.proofs.Common.{◌≡◌, ℕ, List, [], ◌∷◌, ◌++◌, refl}
-use Rattle.tab_history.specs.Legality.{State, after, after_all, Allows, Legal}
+-- Histories put together, and what stays through a legal one.
+use Rattle.std.proofs.Common.{◌≡◌, ℕ, ◌≤◌, List, [], ◌∷◌, ◌++◌, All, refl, sym, ap, ◌∙◌, subst}
+use Rattle.std.specs.Prelude.{Option, Some, None, Result, Ok, Err, IfSome, option_map, find, bytes_eq, ⊤}
+use Rattle.std.specs.List.{AllByRecursion}
+use Rattle.std.specs.Result.{result_unwrap_or}
+use Rattle.tab_keys.specs.TableNames.{folded}
+use Rattle.tab_keys.specs.declared.keys.Key.{Key}
+use Rattle.tab_rows.specs.Rows.{RowView, AreRising, row_at}
+use Rattle.tab_ops.specs.Groups.{ItemView}
+use Rattle.tab_ops.specs.Changes.{group_outcome, group_keys}
+use Rattle.tab_ops.specs.declared.groups.OpRefused.{OpRefused}
+use Rattle.tab_history.specs.World.{World, Named, table_of, floor_of}
+use Rattle.tab_history.specs.Legality.{State, accepted, acted, world_after, after, after_all, Allows, Legal}
+use Rattle.tab_history.specs.Followed.{Spares, IsUnchanged, Leaves, IsUnwritten}
 use Rattle.tab_history.specs.declared.entries.Entry.{Entry}
+use Rattle.tab_history.specs.declared.entries.Entry.TheVariants.{Bounds, Resolve, Get, Page, Change, Denied}
+use Rattle.tab_history.specs.declared.entries.Doubt.{Doubt}
+use Rattle.tab_history.specs.declared.entries.Doubt.TheVariants.{Change as Changed}
+use Rattle.tab_history.proofs.GroupLaws.{group-rising, group-other}
 
 pub after_all-append : (state : State) (xs ys : List Entry) → after_all state (xs ++ ys) ≡ after_all (after_all state xs) ys
 after_all-append state [] ys = refl
@@ -11,3 +26,89 @@ after_all-append state (x ∷ xs) ys = after_all-append (after state x) xs ys
 pub Legal-append : (state : State) (xs ys : List Entry) → Legal state xs → Legal (after_all state xs) ys → Legal state (xs ++ ys)
 Legal-append state [] ys first rest = rest
 Legal-append state (x ∷ xs) ys first rest = (first.0, Legal-append (after state x) xs ys first.1 rest)
+
+-- a history that is legal is so in its two parts
+pub Legal-parts : (state : State) (xs ys : List Entry) → Legal state (xs ++ ys) → Legal state xs × Legal (after_all state xs) ys
+Legal-parts state [] ys h = (tt, h)
+Legal-parts state (x ∷ xs) ys h = let rest = Legal-parts (after state x) xs ys h.1 in ((h.0, rest.0), rest.1)
+
+-- what a legal entry says of the operation that it accepts: its group stands, with a tick that it may have
+abbrev pub Acts : World → Doubt → Type 0
+Acts world (Changed table group tick) =
+    ((rows : List RowView) × (group_outcome world.rows table tick group ≡ Ok rows)) × All (λ key. floor_of world.floors key ≤ tick) (group_keys table group)
+
+allowed_change : (state : State) (ask now table : ℕ) (group : List ItemView) (result : Result ℕ OpRefused) → Allows state (Change ask now table group result) → IfSome (accepted (Change ask now table group result)) (Acts state.world)
+allowed_change state ask now table group (Ok tick) h = (h.1, h.2.from_floors)
+allowed_change state ask now table group (Err refusal) h = tt
+
+pub allowed_acts : (state : State) (entry : Entry) → Allows state entry → IfSome (accepted entry) (Acts state.world)
+allowed_acts state (Bounds bounds) h = tt
+allowed_acts state (Resolve ask name table) h = tt
+allowed_acts state (Get ask table pk rk found) h = tt
+allowed_acts state (Page ask table options page) h = tt
+allowed_acts state (Change ask now table group result) h = allowed_change state ask now table group result h
+allowed_acts state (Denied ask why) h = tt
+
+module _ (P : World → Type 0) (Q : Doubt → Type 0) (step : (world : World) (operation : Doubt) → Acts world operation → Q operation → P world → P (acted world operation)) where
+  kept_by : (world : World) (operation : Option Doubt) → IfSome operation (Acts world) → IfSome operation Q → P world → P (world_after world operation)
+  kept_by world None a q h = h
+  kept_by world (Some operation) a q h = step world operation a q h
+
+  -- what each accepted operation leaves true of the world is true after a legal history
+  pub kept_through : (state : State) (entries : List Entry) → Legal state entries → AllByRecursion (λ entry. IfSome (accepted entry) Q) entries → P state.world → P (after_all state entries).world
+  kept_through state [] legal q h = h
+  kept_through state (entry ∷ entries) legal q h =
+      kept_through (after state entry) entries legal.1 q.1 (kept_by state.world (accepted entry) (allowed_acts state entry legal.0) q.0 h)
+
+any_operation : (entries : List Entry) → AllByRecursion (λ entry. IfSome (accepted entry) (λ operation. ⊤)) entries
+any_operation [] = tt
+any_operation (entry ∷ entries) = (by_operation (accepted entry), any_operation entries)
+  where
+    by_operation : (operation : Option Doubt) → IfSome operation (λ it. ⊤)
+    by_operation None = tt
+    by_operation (Some operation) = tt
+
+-- so is what each operation leaves true
+pub kept : (P : World → Type 0) → ((world : World) (operation : Doubt) → Acts world operation → P world → P (acted world operation)) → (state : State) (entries : List Entry) → Legal state entries → P state.world → P (after_all state entries).world
+kept P step state entries legal h = kept_through P (λ operation. ⊤) (λ world operation a q k. step world operation a k) state entries legal (any_operation entries) h
+
+acted-rising : (world : World) (operation : Doubt) → Acts world operation → AreRising world.rows → AreRising (acted world operation).rows
+acted-rising world (Changed table group tick) a h = subst (λ result. AreRising (result_unwrap_or result world.rows)) (sym a.0.1) (group-rising world.rows a.0.0 table tick group h a.0.1)
+
+-- the rows of a world keep rising
+pub rising_after : (state : State) (entries : List Entry) → Legal state entries → AreRising state.world.rows → AreRising (after_all state entries).world.rows
+rising_after = kept (λ world. AreRising world.rows) acted-rising
+
+-- ---- what stays where nothing is written
+
+pub each_append : (P : Entry → Type 0) (xs ys : List Entry) → AllByRecursion P (xs ++ ys) → AllByRecursion P xs × AllByRecursion P ys
+each_append P [] ys h = (tt, h)
+each_append P (x ∷ xs) ys h = let rest = each_append P xs ys h.1 in ((h.0, rest.0), rest.1)
+
+acted-spared : (key : Key) (row : Option RowView) (world : World) (operation : Doubt) → Acts world operation → Spares key operation → row_at world.rows key ≡ row → row_at (acted world operation).rows key ≡ row
+acted-spared key row world (Changed table group tick) a spared h =
+    subst (λ result. row_at (result_unwrap_or result world.rows) key ≡ row) (sym a.0.1) (group-other world.rows a.0.0 table tick group key spared a.0.1 ∙ h)
+
+-- a key that no operation changes keeps its row
+pub unchanged_after : (key : Key) (state : State) (entries : List Entry) → Legal state entries → IsUnchanged key entries → row_at (after_all state entries).world.rows key ≡ row_at state.world.rows key
+unchanged_after key state entries legal unchanged =
+    kept_through (λ world. row_at world.rows key ≡ row_at state.world.rows key) (Spares key) (acted-spared key (row_at state.world.rows key)) state entries legal unchanged refl
+
+-- so does a key that is unwritten
+pub unwritten_row : (key : Key) (name : List ℕ) (state : State) (entries : List Entry) (row : Option RowView) → Legal state entries → IsUnwritten key name entries → row_at state.world.rows key ≡ row → row_at (after_all state entries).world.rows key ≡ row
+unwritten_row key name state entries row legal unwritten h = kept_through (λ world. row_at world.rows key ≡ row) (Leaves key name) step state entries legal unwritten h
+  where
+    step : (world : World) (operation : Doubt) → Acts world operation → Leaves key name operation → row_at world.rows key ≡ row → row_at (acted world operation).rows key ≡ row
+    step world (Changed table group tick) a leaves k = acted-spared key row world (Changed table group tick) a leaves k
+
+-- and its table's name keeps its number
+pub unwritten_name : (key : Key) (name : List ℕ) (state : State) (entries : List Entry) (table : Option ℕ) → Legal state entries → IsUnwritten key name entries → table_of state.world.names name ≡ table → table_of (after_all state entries).world.names name ≡ table
+unwritten_name key name state entries table legal unwritten h = kept_through (λ world. table_of world.names name ≡ table) (Leaves key name) step state entries legal unwritten h
+  where
+    step : (world : World) (operation : Doubt) → Acts world operation → Leaves key name operation → table_of world.names name ≡ table → table_of (acted world operation).names name ≡ table
+    step world (Changed table group tick) a leaves k = k
+
+-- names that differ in case alone are those of one table
+pub table_of-folded : (names : List Named) (a b : List ℕ) → folded a ≡ folded b → table_of names a ≡ table_of names b
+unfolding table_of
+table_of-folded names a b e = ap (λ folds. option_map (λ (named : Named). named.table) (find (λ named. bytes_eq (folded named.spelling) folds) names)) e

@@ -1,2 +1,4 @@
 pub mod HistoryLaws
 pub mod ChangeLaws
+pub mod GroupLaws
+pub mod FollowedLaws

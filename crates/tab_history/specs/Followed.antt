@@ -1,5 +1,5 @@
 -- Queries that are followed to their end, page by page, and what their pages give together.
-use Rattle.std.specs.Prelude.{◌≡◌, ℕ, ◌+◌, ◌/◌, ◌<◌, ◌≤◌, List, [], ◌∷◌, ◌++◌, length, Bool, false, not, ◌&&◌, ◌==◌, filter, All, AllPairs, Contains, IsTrue, IfSome, Option, Some, None, unwrap_or}
+use Rattle.std.specs.Prelude.{◌≡◌, ℕ, List, [], ◌∷◌, ◌++◌, Bool, false, not, ◌&&◌, ◌==◌, All, AllPairs, Contains, IsTrue, IfSome, Some, None, unwrap_or}
 use Rattle.std.specs.List.{AllByRecursion}
 use Rattle.std.specs.Ordering.{ordering_then, is_lt}
 use Rattle.tab_keys.specs.Order.{text_cmp, key_lt, same_key}

@@ -4,6 +4,8 @@
 
 mod entries;
 mod exchanges;
+mod laws;
 
 pub use entries::{Bounds, Denied, Doubt, Entry, History};
 pub use exchanges::{Ask, Reply};
+pub use laws::followed_queries;
