@@ -17,7 +17,7 @@ use Rattle.tab_ops.specs.declared.groups.OpRefused.{OpRefused}
 same_Ok : (x y : List RowView) (result : Result (List RowView) OpRefused) → result ≡ Ok x → result ≡ Ok y → x ≡ y
 same_Ok x y result h k = ap (λ other. result_unwrap_or other x) (sym h ∙ k)
 
-err_ok : (x : List RowView) (refusal : OpRefused) (result : Result (List RowView) OpRefused) → result ≡ Err refusal → result ≡ Ok x → ⊥
+pub err_ok : (x : List RowView) (refusal : OpRefused) (result : Result (List RowView) OpRefused) → result ≡ Err refusal → result ≡ Ok x → ⊥
 err_ok x refusal result h k = true≢false (sym (ap is_ok k) ∙ ap is_ok h)
 
 -- what each item leaves true of the rows is true after all of them
@@ -44,7 +44,7 @@ pub group-rising : (rows later : List RowView) (table tick : ℕ) (group : List 
 group-rising rows later table tick group =
     rows_after-keep AreRising table tick group (λ kept item outcome within h. settled-rising kept (item_key table item) tick outcome h) 0 rows later
 
-settled-other : (rows : List RowView) (key other : Key) (tick : ℕ) (outcome : Option EntityView) → same_key key other ≡ false → row_at (settled rows key tick outcome) other ≡ row_at rows other
+pub settled-other : (rows : List RowView) (key other : Key) (tick : ℕ) (outcome : Option EntityView) → same_key key other ≡ false → row_at (settled rows key tick outcome) other ≡ row_at rows other
 settled-other rows key other tick (Some entity) apart = row_at-with_row_other rows (record { key = key; entity = entity; tick = tick }) other apart
 settled-other rows key other tick None apart = row_at-without_row_other rows key other apart
 

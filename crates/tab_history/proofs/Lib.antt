@@ -2,3 +2,4 @@ pub mod HistoryLaws
 pub mod ChangeLaws
 pub mod GroupLaws
 pub mod FollowedLaws
+pub mod TickLaws

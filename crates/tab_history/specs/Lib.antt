@@ -1,3 +1,4 @@
 pub mod World
 pub mod Legality
 pub mod Followed
+pub mod Ticks
