@@ -1,2 +1,4 @@
 pub mod PageLaws
+pub mod RisingLists
 pub mod OnePageLaws
+pub mod PageCounts

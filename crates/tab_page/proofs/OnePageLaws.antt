@@ -1,10 +1,10 @@
 -- What one page has of the rows of a world, where its next page begins, and that no row is lost between the two.
-use Rattle.std.proofs.Common.{◌≡◌, ℕ, zero, suc, ◌<◌, List, [], ◌∷◌, ◌++◌, Bool, true, false, cond, not, ◌&&◌, ◌==◌, length, get_or, take, drop, filter, Contains, All, AllPairs, refl, sym, ap, ◌∙◌, subst, inl, inr, ◌⊎◌, ⊎_elim, arith}
+use Rattle.std.proofs.Common.{◌≡◌, ℕ, List, [], ◌∷◌, ◌++◌, Bool, true, false, cond, not, ◌&&◌, ◌==◌, take, drop, filter, Contains, AllPairs, refl, sym, ap, ◌∙◌, subst, inl, inr, ◌⊎◌, ⊎_elim}
 use Rattle.std.specs.Prelude.{Option, Some, None, IsTrue, unwrap_or}
 use Rattle.std.proofs.lemmas.Bool.{true≢false, and_parts, and_from, eqb-true, eq-eqb, not-true}
 use Rattle.std.proofs.lemmas.List.{take-append-drop}
-use Rattle.std.proofs.lemmas.List.Elements.{All-nil, All-cons, All-head, All-tail, All-append, All-contains, filter_passes, Contains-append_left, Contains-append_right, Contains-append_cases}
-use Rattle.std.proofs.lemmas.List.Kept.{AllPairs-cons, AllPairs-filter}
+use Rattle.std.proofs.lemmas.List.Elements.{All-contains}
+use Rattle.std.proofs.lemmas.List.Kept.{AllPairs-filter}
 use Rattle.std.proofs.lemmas.Option.{none-some, same_Some}
 use Rattle.std.specs.declared.cmp.Ordering.{Ordering}
 use Rattle.std.specs.declared.cmp.Ordering.TheVariants.{Less, Equal, Greater}
@@ -23,102 +23,7 @@ use Rattle.tab_filter.proofs.WindowEdges.{starts_low, reaches_up_to}
 use Rattle.tab_page.specs.Pages.{seen, passes, matches, window_for, window, key_at, later_key, corner, start_key, lesser, end_above, is_listed, next_of, listed, page_up_to, page_of, page_below, looked_at}
 use Rattle.tab_page.specs.declared.pages.Options.{Options}
 use Rattle.tab_page.specs.declared.pages.Page.{Page}
-
--- ---- lists whose elements rise
-
-module _ {X : Type 0} where
-  pub Contains-here : (x : X) (xs : List X) → Contains (x ∷ xs) x
-  Contains-here x xs = (zero, omega arith, refl)
-
-  pub Contains-there : (x y : X) (xs : List X) → Contains xs y → Contains (x ∷ xs) y
-  Contains-there x y xs h = (suc h.0, (let below : h.0 < length xs = h.1 in omega arith), h.2)
-
-  pub Contains-cons_cases : (x y : X) (xs : List X) → Contains (x ∷ xs) y → (x ≡ y) ⊎ Contains xs y
-  Contains-cons_cases x y xs h = by_place h.0 h.1 h.2
-    where
-      by_place : (k : ℕ) → k < length (x ∷ xs) → get_or (x ∷ xs) k y ≡ y → (x ≡ y) ⊎ Contains xs y
-      by_place zero within e = inl e
-      by_place (suc k) within e = inr (k, omega arith, e)
-
-  pub Contains-nil : (y : X) → Contains [] y → ⊥
-  Contains-nil y h = let below : h.0 < 0 = h.1 in omega arith
-
-  pub Contains-filter : (p : X → Bool) (xs : List X) (x : X) → Contains xs x → p x ≡ true → Contains (filter p xs) x
-  Contains-filter p [] x h k = h
-  Contains-filter p (y ∷ ys) x h k = by_test (λ g. Contains-filter p ys x g k) (p y) refl
-    where
-      by_test : (Contains ys x → Contains (filter p ys) x) → (b : Bool) → p y ≡ b → Contains (cond b (y ∷ filter p ys) (filter p ys)) x
-      by_test later true e = ⊎_elim (λ same. subst (λ z. Contains (y ∷ filter p ys) z) same (Contains-here y (filter p ys))) (λ g. Contains-there y x (filter p ys) (later g)) (Contains-cons_cases y x ys h)
-      by_test later false e = ⊎_elim (λ same. absurd (true≢false (sym k ∙ (ap p (sym same) ∙ e)))) later (Contains-cons_cases y x ys h)
-
-  pub Contains-filtered : (p : X → Bool) (xs : List X) (x : X) → Contains (filter p xs) x → Contains xs x × (p x ≡ true)
-  Contains-filtered p xs x h = (within xs h, All-contains (λ y. p y ≡ true) (filter p xs) x (filter_passes p xs) h)
-    where
-      within : (ys : List X) → Contains (filter p ys) x → Contains ys x
-      within [] g = g
-      within (y ∷ ys) g = by_test (within ys) (p y) g
-        where
-          by_test : (Contains (filter p ys) x → Contains ys x) → (b : Bool) → Contains (cond b (y ∷ filter p ys) (filter p ys)) x → Contains (y ∷ ys) x
-          by_test rest true k = ⊎_elim (λ same. subst (λ z. Contains (y ∷ ys) z) same (Contains-here y ys)) (λ later. Contains-there y x ys (rest later)) (Contains-cons_cases y x (filter p ys) k)
-          by_test rest false k = Contains-there y x ys (rest k)
-
-  -- an element stands before a place or behind it
-  pub Contains-cut : (n : ℕ) (xs : List X) (x : X) → Contains xs x → Contains (take n xs) x ⊎ Contains (drop n xs) x
-  Contains-cut n xs x h = Contains-append_cases (take n xs) (drop n xs) x (subst (λ ys. Contains ys x) (sym (take-append-drop n xs)) h)
-
-  pub Contains-take : (n : ℕ) (xs : List X) (x : X) → Contains (take n xs) x → Contains xs x
-  Contains-take n xs x h = subst (λ ys. Contains ys x) (take-append-drop n xs) (Contains-append_left (take n xs) (drop n xs) x h)
-
-  pub Contains-drop : (n : ℕ) (xs : List X) (x : X) → Contains (drop n xs) x → Contains xs x
-  Contains-drop n xs x h = subst (λ ys. Contains ys x) (take-append-drop n xs) (Contains-append_right (take n xs) (drop n xs) x h)
-
-  -- what holds of all elements, where the proof names the element
-  pub All-from_each : (P : X → Type 0) (xs : List X) → ((x : X) → Contains xs x → P x) → All P xs
-  All-from_each P [] h = All-nil P
-  All-from_each P (x ∷ xs) h = All-cons P x xs (h x (Contains-here x xs)) (All-from_each P xs (λ y k. h y (Contains-there x y xs k)))
-
-module _ {X : Type 0} (R : X → X → Type 0) where
-  pub AllPairs-nil : AllPairs R []
-  AllPairs-nil i j d below within = absurd (omega arith)
-
-  pub AllPairs-head : (x : X) (xs : List X) → AllPairs R (x ∷ xs) → All (R x) xs
-  AllPairs-head x xs h k d within = h zero (suc k) d (omega arith) (omega arith)
-
-  pub AllPairs-tail : (x : X) (xs : List X) → AllPairs R (x ∷ xs) → AllPairs R xs
-  AllPairs-tail x xs h i j d below within = h (suc i) (suc j) d (omega arith) (omega arith)
-
-  pub AllPairs-append : (xs ys : List X) → AllPairs R xs → AllPairs R ys → All (λ x. All (R x) ys) xs → AllPairs R (xs ++ ys)
-  AllPairs-append [] ys h k across = k
-  AllPairs-append (x ∷ xs) ys h k across =
-      AllPairs-cons R x (xs ++ ys) (All-append (R x) xs ys (AllPairs-head x xs h) (All-head (λ y. All (R y) ys) x xs across))
-      (AllPairs-append xs ys (AllPairs-tail x xs h) k (All-tail (λ y. All (R y) ys) x xs across))
-
-  pub AllPairs-front : (xs ys : List X) → AllPairs R (xs ++ ys) → AllPairs R xs
-  AllPairs-front [] ys h = AllPairs-nil
-  AllPairs-front (x ∷ xs) ys h =
-      AllPairs-cons R x xs (All-from_each (R x) xs (λ y k. All-contains (R x) (xs ++ ys) y (AllPairs-head x (xs ++ ys) h) (Contains-append_left xs ys y k)))
-      (AllPairs-front xs ys (AllPairs-tail x (xs ++ ys) h))
-
-  pub AllPairs-back : (xs ys : List X) → AllPairs R (xs ++ ys) → AllPairs R ys
-  AllPairs-back [] ys h = h
-  AllPairs-back (x ∷ xs) ys h = AllPairs-back xs ys (AllPairs-tail x (xs ++ ys) h)
-
-  -- each element of the front is below each of the back
-  pub AllPairs-across : (xs ys : List X) → AllPairs R (xs ++ ys) → (x y : X) → Contains xs x → Contains ys y → R x y
-  AllPairs-across [] ys h x y k l = absurd (Contains-nil x k)
-  AllPairs-across (z ∷ xs) ys h x y k l =
-      ⊎_elim
-      (λ same. subst (λ w. R w y) same (All-contains (R z) (xs ++ ys) y (AllPairs-head z (xs ++ ys) h) (Contains-append_right xs ys y l)))
-      (λ later. AllPairs-across xs ys (AllPairs-tail z (xs ++ ys) h) x y later l)
-      (Contains-cons_cases z x xs k)
-
-  -- pairs of elements of which something holds
-  pub AllPairs-weaker : (S : X → X → Type 0) (P : X → Type 0) → ((x y : X) → P x → P y → R x y → S x y) → (xs : List X) → All P xs → AllPairs R xs → AllPairs S xs
-  AllPairs-weaker S P f [] h k = λ i j d below within. absurd (omega arith)
-  AllPairs-weaker S P f (x ∷ xs) h k =
-      AllPairs-cons S x xs
-      (All-from_each (S x) xs (λ y l. f x y (All-head P x xs h) (All-contains P xs y (All-tail P x xs h) l) (All-contains (R x) xs y (AllPairs-head x xs k) l)))
-      (AllPairs-weaker S P f xs (All-tail P x xs h) (AllPairs-tail x xs k))
+use Rattle.tab_page.proofs.RisingLists.{Contains-here, Contains-cons_cases, Contains-nil, Contains-filter, Contains-filtered, Contains-cut, Contains-take, Contains-drop, All-from_each, AllPairs-head, AllPairs-front, AllPairs-back, AllPairs-across, AllPairs-weaker}
 
 -- ---- places
 
@@ -245,11 +150,11 @@ listed_from table all start end row h =
 
 -- ---- where the next page begins
 
-abbrev Rises : RowView → RowView → Type 0
+abbrev pub Rises : RowView → RowView → Type 0
 Rises a b = IsTrue (key_lt a.key b.key)
 
 -- with no row left it begins at the end, in the table
-at_end : (table : ℕ) (all : WindowView) (end : Bound) (token : List ℕ × List ℕ) → next_of table all end [] ≡ Some token → (pk : List ℕ) × (end ≡ At table pk) × (token ≡ (pk, []))
+pub at_end : (table : ℕ) (all : WindowView) (end : Bound) (token : List ℕ × List ℕ) → next_of table all end [] ≡ Some token → (pk : List ℕ) × (end ≡ At table pk) × (token ≡ (pk, []))
 at_end table all (At other pk) token h = by_test (other == table && reaches all pk) refl h
   where
     by_test : (t : Bool) → (other == table && reaches all pk) ≡ t → cond t (Some (pk, [])) None ≡ Some token → (key : List ℕ) × (At other pk ≡ At table key) × (token ≡ (key, []))
@@ -279,7 +184,7 @@ module _ (table : ℕ) (all : WindowView) (start : Key) (end : Bound) where
   Lists row = IsListed table all start end row
 
   -- each row before it is below it
-  next_below : (front back : List RowView) → AllPairs Rises (front ++ back) → ((row : RowView) → Contains front row → Lists row) → ((row : RowView) → Contains back row → Lists row)
+  pub next_below : (front back : List RowView) → AllPairs Rises (front ++ back) → ((row : RowView) → Contains front row → Lists row) → ((row : RowView) → Contains back row → Lists row)
       → (token : List ℕ × List ℕ) → next_of table all end back ≡ Some token → (row : RowView) → Contains front row → place_lt (place_of row.key) token ≡ true
   next_below front (first ∷ back) rising f b token h row within =
       subst (λ place. place_lt (place_of row.key) place ≡ true) (same_Some (place_of first.key) token h)
@@ -344,58 +249,58 @@ pub record OnePage (rows : List RowView) (table : ℕ) (options : Options) (page
       → Contains page.rows row ⊎ ((token : List ℕ × List ℕ) × (page.next ≡ Some token) × (place_lt (place_of row.key) token ≡ false))
 
 module _ (rows : List RowView) (rising : AreRising rows) (table : ℕ) (options : Options) (end : Bound) (behind : is_before (start_key table options) end ≡ true) (n : ℕ) where
-  abbrev all : WindowView
-  all = window options
+  abbrev its_window : WindowView
+  its_window = window options
 
-  abbrev start : Key
-  start = start_key table options
+  abbrev its_start : Key
+  its_start = start_key table options
 
-  abbrev list : List RowView
-  list = filter (is_listed table all start end) rows
+  abbrev its_list : List RowView
+  its_list = filter (is_listed table its_window its_start end) rows
 
-  lists : (row : RowView) → Contains list row → IsListed table all start end row
-  lists row within = listed_parts table all start end row (Contains-filtered (is_listed table all start end) rows row within).1
+  lists : (row : RowView) → Contains its_list row → IsListed table its_window its_start end row
+  lists row within = listed_parts table its_window its_start end row (Contains-filtered (is_listed table its_window its_start end) rows row within).1
 
-  list_rises : AllPairs Rises (take n list ++ drop n list)
-  list_rises = subst (AllPairs Rises) (sym (take-append-drop n list)) (AllPairs-filter Rises (is_listed table all start end) rows rising)
+  pub list_rises : AllPairs Rises (take n its_list ++ drop n its_list)
+  list_rises = subst (AllPairs Rises) (sym (take-append-drop n its_list)) (AllPairs-filter Rises (is_listed table its_window its_start end) rows rising)
 
-  looked : (row : RowView) → Contains (filter (matches options) (take n list)) row → Contains (take n list) row × (matches options row ≡ true)
-  looked row within = Contains-filtered (matches options) (take n list) row within
+  looked : (row : RowView) → Contains (filter (matches options) (take n its_list)) row → Contains (take n its_list) row × (matches options row ≡ true)
+  looked row within = Contains-filtered (matches options) (take n its_list) row within
 
-  front_lists : (row : RowView) → Contains (take n list) row → IsListed table all start end row
-  front_lists row within = lists row (Contains-take n list row within)
+  pub front_lists : (row : RowView) → Contains (take n its_list) row → IsListed table its_window its_start end row
+  front_lists row within = lists row (Contains-take n its_list row within)
 
-  back_lists : (row : RowView) → Contains (drop n list) row → IsListed table all start end row
-  back_lists row within = lists row (Contains-drop n list row within)
+  pub back_lists : (row : RowView) → Contains (drop n its_list) row → IsListed table its_window its_start end row
+  back_lists row within = lists row (Contains-drop n its_list row within)
 
   found : (row : RowView) → Contains rows row → row.key.table ≡ table → matches options row ≡ true → place_lt (place_of row.key) (start_place options) ≡ false
-      → Contains (filter (matches options) (take n list)) row ⊎ ((token : List ℕ × List ℕ) × (next_of table all end (drop n list) ≡ Some token) × (place_lt (place_of row.key) token ≡ false))
+      → Contains (filter (matches options) (take n its_list)) row ⊎ ((token : List ℕ × List ℕ) × (next_of table its_window end (drop n its_list) ≡ Some token) × (place_lt (place_of row.key) token ≡ false))
   found row within e m from = by_test (is_before row.key end) refl
     where
-      inside : has all row.key.pk row.key.rk ≡ true
+      inside : has its_window row.key.pk row.key.rk ≡ true
       inside = matches_inside options row m
 
-      by_test : (t : Bool) → is_before row.key end ≡ t → Contains (filter (matches options) (take n list)) row ⊎ ((token : List ℕ × List ℕ) × (next_of table all end (drop n list) ≡ Some token) × (place_lt (place_of row.key) token ≡ false))
+      by_test : (t : Bool) → is_before row.key end ≡ t → Contains (filter (matches options) (take n its_list)) row ⊎ ((token : List ℕ × List ℕ) × (next_of table its_window end (drop n its_list) ≡ Some token) × (place_lt (place_of row.key) token ≡ false))
       by_test true below =
-          let test : is_listed table all start end row ≡ true = listed_from table all start end row (record { in_table = e; from = start_from_place table options row e m from; below = below; inside = inside }) in
+          let test : is_listed table its_window its_start end row ≡ true = listed_from table its_window its_start end row (record { in_table = e; from = start_from_place table options row e m from; below = below; inside = inside }) in
           ⊎_elim
-          (λ front. inl (Contains-filter (matches options) (take n list) row front m))
-          (λ back. inr (next_first table all start end (drop n list) (AllPairs-back Rises (take n list) (drop n list) list_rises) back_lists row back))
-          (Contains-cut n list row (Contains-filter (is_listed table all start end) rows row within test))
-      by_test false past = inr (next_past table all start end (start_table table options) behind (drop n list) back_lists row e inside past)
+          (λ front. inl (Contains-filter (matches options) (take n its_list) row front m))
+          (λ back. inr (next_first table its_window its_start end (drop n its_list) (AllPairs-back Rises (take n its_list) (drop n its_list) list_rises) back_lists row back))
+          (Contains-cut n its_list row (Contains-filter (is_listed table its_window its_start end) rows row within test))
+      by_test false past = inr (next_past table its_window its_start end (start_table table options) behind (drop n its_list) back_lists row e inside past)
 
   pub one_page : OnePage rows table options (page_up_to table options end n (listed rows table options end))
   unfolding page_up_to listed
   one_page = record {
-    rising = AllPairs-filter (λ a b. IsTrue (place_lt (place_of a.key) (place_of b.key))) (matches options) (take n list)
-        (AllPairs-weaker Rises (λ a b. IsTrue (place_lt (place_of a.key) (place_of b.key))) (IsListed table all start end)
-        (λ a b f g h. sym (key_lt_in_table a.key b.key (f.in_table ∙ sym g.in_table)) ∙ h) (take n list) (All-from_each (IsListed table all start end) (take n list) front_lists)
-        (AllPairs-front Rises (take n list) (drop n list) list_rises));
+    rising = AllPairs-filter (λ a b. IsTrue (place_lt (place_of a.key) (place_of b.key))) (matches options) (take n its_list)
+        (AllPairs-weaker Rises (λ a b. IsTrue (place_lt (place_of a.key) (place_of b.key))) (IsListed table its_window its_start end)
+        (λ a b f g h. sym (key_lt_in_table a.key b.key (f.in_table ∙ sym g.in_table)) ∙ h) (take n its_list) (All-from_each (IsListed table its_window its_start end) (take n its_list) front_lists)
+        (AllPairs-front Rises (take n its_list) (drop n its_list) list_rises));
     right = λ row within. let test = looked row within in
-        ((Contains-filtered (is_listed table all start end) rows row (Contains-take n list row test.0)).0, (front_lists row test.0).in_table, test.1);
+        ((Contains-filtered (is_listed table its_window its_start end) rows row (Contains-take n its_list row test.0)).0, (front_lists row test.0).in_table, test.1);
     from = λ row within. let listed = front_lists row (looked row within).0 in place_from_start table options row.key listed.in_table listed.from;
-    below = λ token h row within. next_below table all start end (take n list) (drop n list) list_rises front_lists back_lists token h row (looked row within).0;
-    ahead = λ token h. next_from table all start end (start_place options) (start_after table options) (place_from_start table options) behind (drop n list) back_lists token h;
+    below = λ token h row within. next_below table its_window its_start end (take n its_list) (drop n its_list) list_rises front_lists back_lists token h row (looked row within).0;
+    ahead = λ token h. next_from table its_window its_start end (start_place options) (start_after table options) (place_from_start table options) behind (drop n its_list) back_lists token h;
     whole = found;
   }
 
