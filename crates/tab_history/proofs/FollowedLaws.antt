@@ -18,7 +18,8 @@ use Rattle.tab_rows.specs.Rows.{RowView, AreRising, row_at}
 use Rattle.tab_rows.proofs.RowLaws.{All-row_at}
 use Rattle.tab_page.specs.Pages.{matches}
 use Rattle.tab_page.specs.declared.pages.Options.{Options}
-use Rattle.tab_page.proofs.OnePageLaws.{OnePage, page_of-one, place_lt as places_lt, place_of, start_place, key_lt_in_table, AllPairs-append, All-from_each, Contains-here, Contains-there}
+use Rattle.tab_page.proofs.OnePageLaws.{OnePage, page_of-one, place_lt as places_lt, place_of, start_place, key_lt_in_table}
+use Rattle.tab_page.proofs.RisingLists.{AllPairs-append, All-from_each, Contains-here, Contains-there}
 use Rattle.tab_history.specs.World.{IsWorld, table_of}
 use Rattle.tab_history.specs.Legality.{State, after, after_all, Allows, Legal}
 use Rattle.tab_history.specs.Followed.{Asked, Leg, Query, resolve_of, page_entry, entries_from, entries_of, rows_from, GoesOn, IsFollowedFrom, at_first, IsUnwritten, place_lt, first_key, IsRight, AreRight, FollowedWell}
@@ -27,7 +28,7 @@ use Rattle.tab_history.proofs.HistoryLaws.{Legal-parts, rising_after, each_appen
 
 -- ---- places
 
-place_total : IsTotalOrder (λ (a b : List ℕ × List ℕ). ordering_then (text_cmp a.0 b.0) (text_cmp a.1 b.1))
+pub place_total : IsTotalOrder (λ (a b : List ℕ × List ℕ). ordering_then (text_cmp a.0 b.0) (text_cmp a.1 b.1))
 place_total = then_total (on_total (λ (place : List ℕ × List ℕ). place.0) text_cmp_total) (on_total (λ (place : List ℕ × List ℕ). place.1) text_cmp_total)
 
 -- what is below a place is below all that is not below it
@@ -77,7 +78,7 @@ same_table a b h = (unsigned_Decides a.table b.table).0 (unsigned_ties a.table b
 -- ---- from one page to the last
 
 -- the page that a legal history gives
-page_one : (state : State) (asked : Asked) → AreRising state.world.rows → Allows state (page_entry asked) → OnePage state.world.rows asked.table asked.options asked.page
+pub page_one : (state : State) (asked : Asked) → AreRising state.world.rows → Allows state (page_entry asked) → OnePage state.world.rows asked.table asked.options asked.page
 page_one state asked rising allowed =
     subst (OnePage state.world.rows asked.table asked.options) (sym allowed.1) (page_of-one state.world.rows rising state.bounds asked.table asked.options)
 
@@ -86,7 +87,7 @@ starts_at : (before : Asked) (leg : Leg) (go : GoesOn before leg) → start_plac
 starts_at before leg go = ap start_place go.options
 
 -- no row from a page on is below its start
-rows_start : (state : State) (asked : Asked) (legs : List Leg) → AreRising state.world.rows → Legal state (entries_from asked legs) → IsFollowedFrom asked legs
+pub rows_start : (state : State) (asked : Asked) (legs : List Leg) → AreRising state.world.rows → Legal state (entries_from asked legs) → IsFollowedFrom asked legs
     → (row : RowView) → Contains (rows_from asked legs) row → places_lt (place_of row.key) (start_place asked.options) ≡ false
 rows_start state asked [] rising legal followed row within = (page_one state asked rising legal.0).from row within
 rows_start state asked (leg ∷ legs) rising legal followed row within =
@@ -102,10 +103,10 @@ rows_start state asked (leg ∷ legs) rising legal followed row within =
     (one.ahead go.token go.next))
     (Contains-append_cases asked.page.rows (rows_from leg.asked legs) row within)
 
-abbrev Rises : RowView → RowView → Type 0
+abbrev pub Rises : RowView → RowView → Type 0
 Rises a b = IsTrue (place_lt a.key b.key)
 
-rows_rise : (state : State) (asked : Asked) (legs : List Leg) → AreRising state.world.rows → Legal state (entries_from asked legs) → IsFollowedFrom asked legs → AllPairs Rises (rows_from asked legs)
+pub rows_rise : (state : State) (asked : Asked) (legs : List Leg) → AreRising state.world.rows → Legal state (entries_from asked legs) → IsFollowedFrom asked legs → AllPairs Rises (rows_from asked legs)
 rows_rise state asked [] rising legal followed = (page_one state asked rising legal.0).rising
 rows_rise state asked (leg ∷ legs) rising legal followed =
     let one = page_one state asked rising legal.0 in
@@ -132,7 +133,7 @@ pages_right state asked (leg ∷ legs) rising legal =
     (page_right state asked rising legal.0, pages_right (after_all (after state (page_entry asked)) leg.between) leg.asked legs (rising_after (after state (page_entry asked)) leg.between parts.0 rising) parts.1)
 
 -- a look-up that comes after is of the same table, where the name keeps its number
-looked_up : (key : Key) (name : List ℕ) (state : State) (before : Asked) (leg : Leg) (go : GoesOn before leg) → Legal state leg.between → IsUnwritten key name leg.between → folded before.name ≡ folded name
+pub looked_up : (key : Key) (name : List ℕ) (state : State) (before : Asked) (leg : Leg) (go : GoesOn before leg) → Legal state leg.between → IsUnwritten key name leg.between → folded before.name ≡ folded name
     → table_of state.world.names name ≡ Some before.table → leg.asked.table ≡ before.table
 looked_up key name state before leg go legal unwritten folds given =
     let legal_parts = Legal-parts state go.idle (resolve_of leg.asked ∷ go.waiting) (subst (Legal state) go.between legal) in
@@ -142,7 +143,7 @@ looked_up key name state before leg go legal unwritten folds given =
     same_Some leg.asked.table before.table (resolved ∙ (table_of-folded (after_all state go.idle).world.names leg.asked.name name (go.name ∙ folds) ∙ kept))
 
 -- a row that the query asks for, from its start on, whose key is unwritten to the last page, is one of the rows
-rows_whole : (key : Key) (name : List ℕ) (row : RowView) (state : State) (asked : Asked) (legs : List Leg) → AreRising state.world.rows → Legal state (entries_from asked legs) → IsFollowedFrom asked legs
+pub rows_whole : (key : Key) (name : List ℕ) (row : RowView) (state : State) (asked : Asked) (legs : List Leg) → AreRising state.world.rows → Legal state (entries_from asked legs) → IsFollowedFrom asked legs
     → IsUnwritten key name (entries_from asked legs) → folded asked.name ≡ folded name → table_of state.world.names name ≡ Some asked.table
     → row_at state.world.rows key ≡ Some row → row.key.table ≡ asked.table → matches asked.options row ≡ true → places_lt (place_of row.key) (start_place asked.options) ≡ false
     → Contains (rows_from asked legs) row
@@ -174,12 +175,12 @@ rows_whole key name row state asked (leg ∷ legs) rising legal followed unwritt
 -- ---- a query in a history
 
 -- what a history says of a query that it has
-record Had (opening : State) (before : List Entry) (query : Query) : Type 0 where
-  first : Legal (after_all opening before) (resolve_of query.first ∷ query.waiting)
-  pages : Legal (at_first (after_all opening before) query) (entries_from query.first query.legs)
-  rising : AreRising (at_first (after_all opening before) query).world.rows
+pub record Had (opening : State) (before : List Entry) (query : Query) : Type 0 where
+  pub first : Legal (after_all opening before) (resolve_of query.first ∷ query.waiting)
+  pub pages : Legal (at_first (after_all opening before) query) (entries_from query.first query.legs)
+  pub rising : AreRising (at_first (after_all opening before) query).world.rows
 
-had : (opening : State) (history before later : List Entry) (query : Query) → IsWorld opening.world → Legal opening history → history ≡ before ++ (entries_of query ++ later) → Had opening before query
+pub had : (opening : State) (history before later : List Entry) (query : Query) → IsWorld opening.world → Legal opening history → history ≡ before ++ (entries_of query ++ later) → Had opening before query
 had opening history before later query world legal e =
     let outer = Legal-parts opening before (entries_of query ++ later) (subst (Legal opening) e legal) in
     let inner = Legal-parts (after_all opening before) (entries_of query) later outer.1 in

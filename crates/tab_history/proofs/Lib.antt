@@ -3,3 +3,4 @@ pub mod ChangeLaws
 pub mod GroupLaws
 pub mod FollowedLaws
 pub mod TickLaws
+pub mod StillLaws

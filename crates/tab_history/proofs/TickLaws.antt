@@ -13,7 +13,7 @@ use Rattle.tab_keys.proofs.OrderLaws.{same_key_equivalence, is_before_alike}
 use Rattle.tab_edm.specs.Entities.{EntityView}
 use Rattle.tab_rows.specs.Rows.{RowView, row_at, with_row, without_row}
 use Rattle.tab_rows.proofs.RowLaws.{same_key_itself, row_at-with_row, row_at-without_row}
-use Rattle.tab_page.proofs.OnePageLaws.{All-from_each, Contains-cons_cases}
+use Rattle.tab_page.proofs.RisingLists.{All-from_each, Contains-cons_cases}
 use Rattle.tab_ops.specs.Groups.{ItemView, item_key}
 use Rattle.tab_ops.specs.Changes.{outcome_of, settled, unless_refused, rows_after, group_keys}
 use Rattle.tab_ops.specs.declared.groups.OpRefused.{OpRefused}

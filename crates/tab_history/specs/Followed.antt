@@ -1,5 +1,5 @@
 -- Queries that are followed to their end, page by page, and what their pages give together.
-use Rattle.std.specs.Prelude.{◌≡◌, ℕ, List, [], ◌∷◌, ◌++◌, Bool, false, not, ◌&&◌, ◌==◌, All, AllPairs, Contains, IsTrue, IfSome, Some, None, unwrap_or}
+use Rattle.std.specs.Prelude.{◌≡◌, ℕ, ◌+◌, ◌/◌, ◌<◌, ◌≤◌, List, [], ◌∷◌, ◌++◌, length, filter, Bool, false, not, ◌&&◌, ◌==◌, All, AllPairs, Contains, IsTrue, IfSome, Some, None, unwrap_or}
 use Rattle.std.specs.List.{AllByRecursion}
 use Rattle.std.specs.Ordering.{ordering_then, is_lt}
 use Rattle.tab_keys.specs.Order.{text_cmp, key_lt, same_key}
@@ -8,7 +8,7 @@ use Rattle.tab_keys.specs.declared.keys.Key.{Key}
 use Rattle.tab_keys.specs.declared.bounds.Bound.{Bound}
 use Rattle.tab_keys.specs.declared.bounds.Bound.TheVariants.{End}
 use Rattle.tab_rows.specs.Rows.{RowView, row_at}
-use Rattle.tab_page.specs.Pages.{key_at, matches, window, is_listed}
+use Rattle.tab_page.specs.Pages.{key_at, matches, window, is_listed, most_looked_at}
 use Rattle.tab_page.specs.declared.pages.Options.{Options}
 use Rattle.tab_page.specs.declared.pages.Page.{Page}
 use Rattle.tab_ops.specs.Changes.{group_keys}
@@ -159,3 +159,16 @@ is_in_window asked row = is_listed asked.table (window asked.options) (key_at as
 abbrev pub HasAllBounds : List Bound → State → List Entry → Type 0
 HasAllBounds ever state [] = All (Contains ever) state.bounds
 HasAllBounds ever state (entry ∷ entries) = All (Contains ever) state.bounds × HasAllBounds ever (after state entry) entries
+
+-- what such queries give in a history where nothing is written from the look-up of their first page to the last page
+pub record FollowedStill (opening : State) (history : List Entry) : Type 0 where
+  -- all rows that the query asks for, from its beginning on, in their order
+  pub rows : (before after : List Entry) (query : Query) → history ≡ before ++ (entries_of query ++ after) → IsFollowed query → IsStill (entries_of query)
+      → rows_of query ≡ filter (is_answer query.first) (at_first (after_all opening before) query).world.rows
+  -- in so many pages at the most
+  pub pages : (before after : List Entry) (query : Query) (ever : List Bound) → history ≡ before ++ (entries_of query ++ after) → IsFollowed query → IsStill (entries_of query)
+      → 0 < query.first.options.top → HasAllBounds ever (at_first (after_all opening before) query) (entries_from query.first query.legs)
+      → length query.legs + 1
+      ≤ length (rows_of query) / query.first.options.top
+      + length (filter (is_in_window query.first) (at_first (after_all opening before) query).world.rows) / most_looked_at
+      + length ever + 1

@@ -54,7 +54,7 @@ prefix_full {X} test top most (x ∷ xs) = by_end (prefix_full test (top - cond 
     by_end (inr (inl full)) false false e f = inr (inl (more (test x) full))
     by_end (inr (inr full)) false false e f = inr (inr (omega (arith, full)))
 
-count_le : {X : Type 0} (p q : X → Bool) → ((x : X) → q x ≡ true → p x ≡ true) → (xs : List X) → length (filter q xs) ≤ length (filter p xs)
+pub count_le : {X : Type 0} (p q : X → Bool) → ((x : X) → q x ≡ true → p x ≡ true) → (xs : List X) → length (filter q xs) ≤ length (filter p xs)
 count_le p q h [] = omega arith
 count_le {X} p q h (x ∷ xs) = by_test (count_le p q h xs) (q x) (p x) refl refl
   where
@@ -119,10 +119,10 @@ UsesUp top most ever rows table options next =
     ⊎ ((length (rows_ahead rows table next) + most ≤ length (rows_ahead rows table options))
     ⊎ (length (bounds_ahead ever table next) + 1 ≤ length (bounds_ahead ever table options))))
 
-strictly_apart : (x y : RowView) → Rises x y → x ≡ y → ⊥
+pub strictly_apart : (x y : RowView) → Rises x y → x ≡ y → ⊥
 strictly_apart x y h same = true≢false (sym h ∙ (ap (λ (row : RowView). key_lt x.key row.key) (sym same) ∙ key_lt_irreflexive x.key))
 
-one_way_rising : (x y : RowView) → Rises x y → Rises y x → ⊥
+pub one_way_rising : (x y : RowView) → Rises x y → Rises y x → ⊥
 one_way_rising x y h k = true≢false (sym k ∙ key_lt_asymmetric x.key y.key h)
 
 module _ (rows : List RowView) (rising : AreRising rows) (table : ℕ) (options : Options) (end : Bound) (behind : is_before (start_key table options) end ≡ true) (n : ℕ) (token : List ℕ × List ℕ)
