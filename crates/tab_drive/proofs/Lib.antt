@@ -1,3 +1,4 @@
+mod FirstWorld
 mod RangeLemmas
 pub mod Decimals
 pub mod Events

@@ -2,6 +2,8 @@ ghost use Rattle.std.specs.Prelude.{◌≡◌, ◌↔◌, ◌⊎◌, ◌<◌, �
 ghost use Rattle.std.specs.List.{list_all};
 ghost use Rattle.tab_outside.specs.Faults.{Rose};
 ghost use Rattle.tab_history.specs.Legality.{Legal};
+ghost use Rattle.tab_history.specs.Followed.{FollowedWell, FollowedStill};
+ghost use Rattle.tab_history.specs.Ticks.{TicksRise, TicksTellRows};
 ghost use Rattle.tab_drive.specs.Walk.{first_state};
 ghost use Rattle.tab_drive.specs.Runs.{TookLine, usage_line};
 ghost use Rattle.tab_drive.specs.Commands.{IsDrive, IsNoCommand, is_account, is_account_byte, status_of, line_of, Drives, SaidOnly, exit_statuses};
@@ -38,6 +40,15 @@ pub fn run<S: Source, K: Sink, D: Disk, C: Clock>(
 ) -> Ended
     // The history is that of one ordered map.
     ensures legal { Legal first_state result.history }
+
+    // Each query that was followed to its end gave what it should: rows in their order, each of them right, and all that
+    // stayed unwritten meanwhile. Where nothing was written it gave just what it asks for, in few pages.
+    ensures followed { FollowedWell first_state result.history }
+    ensures still { FollowedStill first_state result.history }
+
+    // Of two changes of one key the later has the greater tick, so an ETag tells one version of a row.
+    ensures ticks { TicksRise result.history }
+    ensures versions { TicksTellRows first_state result.history }
 
     // The schedule was read, its history made and its replies written, up to what stopped it.
     ensures drives { (account : List ℕ) → IsDrive (map string_bytes words.now) account → Drives account (C.moment clock.new)

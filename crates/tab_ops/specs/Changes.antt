@@ -1,8 +1,9 @@
 -- What operations and groups of them make of rows.
-use Rattle.std.specs.Prelude.{◌≡◌, ℕ, ◌+◌, List, [], ◌∷◌, ◌++◌, length, map, filter, Bool, true, ◌==◌, nat_lt, if◌then◌else◌, Option, Some, None, Result, Ok, Err, ⊤}
+use Rattle.std.specs.Prelude.{◌≡◌, ℕ, ◌+◌, List, [], ◌∷◌, ◌++◌, length, map, filter, Bool, true, ◌==◌, nat_lt, if◌then◌else◌, Option, Some, None, Result, Ok, Err, ⊤, ◌≤◌}
 use Rattle.tab_keys.specs.declared.keys.Key.{Key}
 use Rattle.tab_edm.specs.Entities.{EntityView, name_lt, entity_size}
 use Rattle.tab_edm.specs.declared.values.Property.{Property}
+use Rattle.tab_edm.specs.declared.TheConstants.{GREATEST}
 use Rattle.tab_rows.specs.Rows.{RowView, row_at, with_row, without_row}
 use Rattle.tab_rows.specs.declared.changes.Change.{Change}
 use Rattle.tab_rows.specs.declared.changes.Change.TheVariants.{Put, Take}
@@ -12,7 +13,7 @@ use Rattle.tab_ops.specs.declared.ops.Match.TheVariants.{Any, Tick}
 use Rattle.tab_ops.specs.declared.ops.Op.{Op}
 use Rattle.tab_ops.specs.declared.ops.Op.TheVariants.{Insert, Update, Replace, Merge, MergeIn, Delete}
 use Rattle.tab_ops.specs.declared.groups.OpRefused.{OpRefused}
-use Rattle.tab_ops.specs.declared.groups.OpRefused.TheVariants.{AlreadyThere, NotThere, Condition, TooMany, TooLarge}
+use Rattle.tab_ops.specs.declared.groups.OpRefused.TheVariants.{AlreadyThere, NotThere, Condition, TooMany, TooLarge, Memory}
 
 -- ---- one operation
 
@@ -124,3 +125,14 @@ change_key (Take key) = key
 abbrev pub HasTick : ℕ → Change → Type 0
 HasTick tick (Put row) = row.tick ≡ tick
 HasTick tick (Take key) = ⊤
+
+-- ---- refusals
+
+-- the kept tick that a refusal names is a moment
+abbrev pub IsTimely : OpRefused → Type 0
+IsTimely (AlreadyThere index) = ⊤
+IsTimely (NotThere index) = ⊤
+IsTimely (Condition index tick) = tick ≤ GREATEST
+IsTimely (TooMany index) = ⊤
+IsTimely (TooLarge index) = ⊤
+IsTimely Memory = ⊤

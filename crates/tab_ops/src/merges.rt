@@ -1,6 +1,6 @@
-ghost use Rattle.std.specs.Prelude.{◌≡◌, ◌≢◌, ◌++◌, Ok, Err, Some, MatchResult, IfOk, filter};
+ghost use Rattle.std.specs.Prelude.{IfErr, ◌≡◌, ◌≢◌, ◌++◌, Ok, Err, Some, MatchResult, IfOk, filter};
 ghost use Rattle.tab_edm.specs.Entities.{IsEntity};
-ghost use Rattle.tab_ops.specs.Changes.{merge_outcome};
+ghost use Rattle.tab_ops.specs.Changes.{IsTimely, merge_outcome};
 ghost use Rattle.tab_ops.specs.Merges.{is_kept, refusal_for};
 
 use crate::OpRefused;
@@ -14,9 +14,10 @@ pub(crate) fn merge(
     kept: &Entity,
     given: &Entity,
 ) -> Result<Entity, OpRefused>
-    ensures { MatchResult result
+    ensures entity { MatchResult result
         (λ entity. merge_outcome index kept.now given.now ≡ Ok (Some entity))
         (λ why. why ≢ OpRefused.Memory → merge_outcome index kept.now given.now ≡ Err why) }
+    ensures timely { IfErr result IsTimely }
 {
     let Ok(properties) = joined(alloc, kept, given) else {
         return Err(OpRefused::Memory);

@@ -1,6 +1,7 @@
-ghost use Rattle.std.specs.Prelude.{◌≡◌, ◌≢◌, Ok, Err, Some, None, MatchResult, if◌then◌else◌};
+ghost use Rattle.std.specs.Prelude.{◌≡◌, ◌≢◌, ◌≤◌, IfErr, Ok, Err, Some, None, MatchResult, if◌then◌else◌};
 ghost use Rattle.std.specs.Option.{option_copied};
-ghost use Rattle.tab_ops.specs.Changes.{meets, outcome_of};
+ghost use Rattle.tab_ops.specs.Changes.{meets, outcome_of, IsTimely};
+ghost use Rattle.tab_edm.specs.declared.TheConstants.{GREATEST};
 
 use crate::merges::merge;
 use crate::ops::copied;
@@ -16,9 +17,10 @@ pub(crate) fn outcome_of(
     kept: Option<&Row>,
     op: &Op,
 ) -> Result<Option<Entity>, OpRefused>
-    ensures { MatchResult result
+    ensures outcome { MatchResult result
         (λ outcome. outcome_of index (option_copied kept.entry) op.now ≡ Ok outcome)
         (λ why. why ≢ OpRefused.Memory → outcome_of index (option_copied kept.entry) op.now ≡ Err why) }
+    ensures timely { IfErr result IsTimely }
 {
     match kept {
         None => outcome_of_absence(alloc, index, op),
@@ -27,9 +29,10 @@ pub(crate) fn outcome_of(
 }
 
 fn outcome_of_absence(alloc: Global, index: usize, op: &Op) -> Result<Option<Entity>, OpRefused>
-    ensures { MatchResult result
+    ensures outcome { MatchResult result
         (λ outcome. outcome_of index None op.now ≡ Ok outcome)
         (λ why. why ≢ OpRefused.Memory → outcome_of index None op.now ≡ Err why) }
+    ensures timely { IfErr result IsTimely }
 {
     match op {
         Op::Insert(entity) | Op::Replace(entity) | Op::MergeIn(entity) => {
@@ -45,9 +48,10 @@ fn outcome_of_row(
     row: &Row,
     op: &Op,
 ) -> Result<Option<Entity>, OpRefused>
-    ensures { MatchResult result
+    ensures outcome { MatchResult result
         (λ outcome. outcome_of index (Some row.now) op.now ≡ Ok outcome)
         (λ why. why ≢ OpRefused.Memory → outcome_of index (Some row.now) op.now ≡ Err why) }
+    ensures timely { IfErr result IsTimely }
 {
     match op {
         Op::Insert(_) => Err(OpRefused::AlreadyThere { index }),
@@ -70,7 +74,9 @@ fn outcome_of_row(
 
 // Refuses a row with this tick, unless it is the one that the condition wants.
 fn check(index: usize, condition: Match, kept: u64) -> Result<(), OpRefused>
-    ensures { result ≡ (if meets condition kept then Ok tt else Err (OpRefused.Condition index kept)) }
+    requires { kept ≤ GREATEST }
+    ensures outcome { result ≡ (if meets condition kept then Ok tt else Err (OpRefused.Condition index kept)) }
+    ensures timely { IfErr result IsTimely }
 {
     match condition {
         Match::Any => Ok(()),

@@ -1,6 +1,6 @@
-ghost use Rattle.std.specs.Prelude.{◌≡◌, ◌≢◌, ◌≤◌, length, map, All, Ok, Err, MatchResult, IfOk};
+ghost use Rattle.std.specs.Prelude.{◌≡◌, ◌≢◌, ◌≤◌, length, map, All, Ok, Err, MatchResult, IfOk, IfErr};
 ghost use Rattle.tab_edm.specs.declared.TheConstants.{GREATEST};
-ghost use Rattle.tab_ops.specs.Changes.{group_outcome, group_keys, applied, change_of, change_key, HasTick};
+ghost use Rattle.tab_ops.specs.Changes.{group_outcome, group_keys, applied, change_of, change_key, HasTick, IsTimely};
 
 use crate::outcomes::outcome_of;
 use crate::{Group, Item, OpRefused};
@@ -102,6 +102,7 @@ pub fn plan(
     ensures outcome { MatchResult result
         (λ changes. group_outcome rows.now.rows table tick group.now ≡ Ok (applied rows.now.rows changes.list))
         (λ why. why ≢ OpRefused.Memory → group_outcome rows.now.rows table tick group.now ≡ Err why) }
+    ensures timely { IfErr result IsTimely }
     ensures tick { IfOk result (λ changes. changes.tick ≡ tick) }
     ensures each { IfOk result (λ changes. length changes.list ≡ length group.now) }
     ensures keys { IfOk result (λ changes. map change_key changes.list ≡ group_keys table group.now) }
@@ -128,9 +129,10 @@ fn change_of(
     item: &Item,
 ) -> Result<Change, OpRefused>
     requires { tick ≤ GREATEST }
-    ensures { MatchResult result
+    ensures change { MatchResult result
         (λ change. change_of index rows.now.rows table tick item.now ≡ Ok change)
         (λ why. why ≢ OpRefused.Memory → change_of index rows.now.rows table tick item.now ≡ Err why) }
+    ensures timely { IfErr result IsTimely }
 {
     let key = item.key(alloc, table)?;
     match outcome_of(alloc, index, rows.get(&key), &item.op)? {

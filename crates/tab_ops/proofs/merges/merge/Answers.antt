@@ -16,13 +16,13 @@ new-requires-clause-unreserved c = joined_unreserved c.args.kept.now c.args.give
 pub new-requires-clause-in_time : goal.new-requires-clause-in_time
 new-requires-clause-in_time c = joined_in_time c.args.kept.now c.args.given.now c.in-Ok.properties.items c.in-Ok.ensures.kept c.in-Ok.ensures.given c.in-Ok.ensures.joined
 
-pub returns-in-Ok-new : goal.returns-in-Ok-new
-returns-in-Ok-new c =
+pub returns-in-Ok-new-clause-entity : goal.returns-in-Ok-new-clause-entity
+returns-in-Ok-new-clause-entity c =
     subst (λ (r : Result EntityView EdmRefused). MatchResult r (λ entity. merge_outcome c.args.index c.args.kept.now c.args.given.now ≡ Ok (Some entity)) (λ why. merge_outcome c.args.index c.args.kept.now c.args.given.now ≡ Err (refusal_for c.args.index why))) c.in-Ok-new.is
     (merge_made c.args.index c.pk_units.result c.rk_units.result c.args.kept.now c.args.given.now c.in-Ok.properties.items c.new.result c.in-Ok.ensures.kept c.in-Ok.ensures.given c.in-Ok.ensures.joined c.pk_units.ensures c.rk_units.ensures c.new.ensures.exact)
 
-pub returns-in-Err : goal.returns-in-Err
-returns-in-Err c = λ _.
+pub returns-in-Err-clause-entity : goal.returns-in-Err-clause-entity
+returns-in-Err-clause-entity c = λ _.
     subst (λ (r : Result EntityView EdmRefused). MatchResult r (λ entity. merge_outcome c.args.index c.args.kept.now c.args.given.now ≡ Ok (Some entity)) (λ why. merge_outcome c.args.index c.args.kept.now c.args.given.now ≡ Err (refusal_for c.args.index why))) c.in-Err.is
     (merge_made c.args.index c.pk_units.result c.rk_units.result c.args.kept.now c.args.given.now c.in-Ok.properties.items c.new.result c.in-Ok.ensures.kept c.in-Ok.ensures.given c.in-Ok.ensures.joined c.pk_units.ensures c.rk_units.ensures c.new.ensures.exact)
     ∙ ap Err (sym c.refusal.ensures)

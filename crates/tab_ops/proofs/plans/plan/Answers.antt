@@ -12,14 +12,14 @@ returns-in_err-change_of-clause-outcome c =
     let why = c.in_err-change_of.field-0.0 in
     let stopped : why ≢ Memory → group_outcome c.args.rows.now.rows c.args.table c.args.tick c.args.group.now ≡ Err why = λ real.
     ap (group_outcome c.args.rows.now.rows c.args.table c.args.tick) (sym c.items-items.ensures.items)
-    ∙ planned_stops c.args.rows.now.rows c.loop-index.changes.items c.args.table c.args.tick c.items-items.result.now c.loop-index.index c.index-items-index.result c.loop-index-test.true c.index-items-index.is c.loop-index.invariant why (c.in_err-change_of.ensures real) in
+    ∙ planned_stops c.args.rows.now.rows c.loop-index.changes.items c.args.table c.args.tick c.items-items.result.now c.loop-index.index c.index-items-index.result c.loop-index-test.true c.index-items-index.is c.loop-index.invariant why (c.in_err-change_of.ensures.change real) in
     rw (p.1, p.2) stopped
 
 pub loop-index-preserved : goal.loop-index-preserved
 loop-index-preserved c =
     rw (c.in_ok-push.ensures.items)
     (planned_more c.args.rows.now.rows c.loop-index.changes.items c.args.table c.args.tick c.items-items.result.now c.loop-index.index c.index-items-index.result c.loop-index-test.true c.index-items-index.is c.loop-index.invariant c.in_ok-change_of.field-0
-    (subst AreApart (sym c.items-items.ensures.items) c.items-items.ensures.apart) c.in_ok-change_of.ensures)
+    (subst AreApart (sym c.items-items.ensures.items) c.items-items.ensures.apart) c.in_ok-change_of.ensures.change)
 
 pub returns-clause-each : goal.returns-clause-each
 returns-clause-each c =

@@ -1,0 +1,29 @@
+-- What every history over the first world gives.
+use Rattle.std.proofs.Common.{◌≡◌, ℕ, List, [], ◌∷◌, All, AllPairs, arith, length, ◌<◌}
+use Rattle.tab_history.specs.World.{IsWorld}
+use Rattle.tab_history.specs.Legality.{Legal}
+use Rattle.tab_history.specs.Followed.{FollowedWell, FollowedStill}
+use Rattle.tab_history.specs.Ticks.{TicksTellRows}
+use Rattle.tab_history.specs.declared.entries.Entry.{Entry}
+use Rattle.tab_history.proofs.FollowedLaws.{followed_well}
+use Rattle.tab_history.proofs.StillLaws.{followed_still}
+use Rattle.tab_history.proofs.TickLaws.{ticks_tell_rows}
+use Rattle.tab_drive.specs.Walk.{first_world, first_state}
+
+pub is_world : IsWorld first_world
+is_world = record {
+  names_rise = λ i j d less within. absurd (omega (arith, less, within));
+  names_below = λ k d within. search;
+  rows_rise = λ i j d less within. absurd (omega (arith, within));
+  rows_below = λ k d within. absurd (omega (arith, within));
+  ticks_below = λ k d within. absurd (omega (arith, within));
+}
+
+pub gives_followed : (history : List Entry) → Legal first_state history → FollowedWell first_state history
+gives_followed history legal = followed_well first_state history is_world legal
+
+pub gives_still : (history : List Entry) → Legal first_state history → FollowedStill first_state history
+gives_still history legal = followed_still first_state history is_world legal
+
+pub tells_rows : (history : List Entry) → Legal first_state history → TicksTellRows first_state history
+tells_rows history legal = ticks_tell_rows first_state history is_world legal
