@@ -72,7 +72,7 @@ any_operation (entry ∷ entries) = (by_operation (accepted entry), any_operatio
 pub kept : (P : World → Type 0) → ((world : World) (operation : Doubt) → Acts world operation → P world → P (acted world operation)) → (state : State) (entries : List Entry) → Legal state entries → P state.world → P (after_all state entries).world
 kept P step state entries legal h = kept_through P (λ operation. ⊤) (λ world operation a q k. step world operation a k) state entries legal (any_operation entries) h
 
-acted-rising : (world : World) (operation : Doubt) → Acts world operation → AreRising world.rows → AreRising (acted world operation).rows
+pub acted-rising : (world : World) (operation : Doubt) → Acts world operation → AreRising world.rows → AreRising (acted world operation).rows
 acted-rising world (Changed table group tick) a h = subst (λ result. AreRising (result_unwrap_or result world.rows)) (sym a.0.1) (group-rising world.rows a.0.0 table tick group h a.0.1)
 
 -- the rows of a world keep rising

@@ -4,3 +4,5 @@ pub mod GroupLaws
 pub mod FollowedLaws
 pub mod TickLaws
 pub mod StillLaws
+pub mod ExampleLaws
+pub mod WorldLaws

@@ -1,12 +1,13 @@
 -- Where nothing is written, a followed query gives all that it asks for, in few pages.
-use Rattle.std.proofs.Common.{◌≡◌, ℕ, suc, ◌+◌, ◌*◌, ◌/◌, ◌<◌, ◌≤◌, List, [], ◌∷◌, ◌++◌, Bool, true, false, cond, not, ◌&&◌, ◌==◌, length, filter, Contains, refl, sym, ap, ◌∙◌, subst, inl, inr, ◌⊎◌, ⊎_elim, arith}
+use Rattle.std.proofs.Common.{◌≡◌, ℕ, suc, ◌+◌, ◌*◌, ◌/◌, ◌<◌, ◌≤◌, List, [], ◌∷◌, ◌++◌, Bool, true, false, cond, not, ◌&&◌, ◌==◌, length, filter, All, Contains, refl, sym, ap, ◌∙◌, subst, inl, inr, ◌⊎◌, ⊎_elim, arith}
 use Rattle.std.specs.Prelude.{Some, None, IfSome, IsTrue}
+use Rattle.std.specs.List.{AllByRecursion}
 use Rattle.std.proofs.Math.Nat.{le-div_iff_mul-le}
 use Rattle.std.specs.declared.cmp.Ordering.{Ordering}
 use Rattle.std.specs.declared.cmp.Ordering.TheVariants.{Less, Equal, Greater}
 use Rattle.std.specs.Ordering.{ordering_then, is_lt}
 use Rattle.std.proofs.lemmas.Bool.{true≢false, and_parts, and_from, eqb-true, eq-eqb, not-true}
-use Rattle.std.proofs.lemmas.List.Elements.{Contains-append_cases}
+use Rattle.std.proofs.lemmas.List.Elements.{Contains-append_cases, All-contains_itself}
 use Rattle.std.proofs.lemmas.List.Kept.{AllPairs-filter}
 use Rattle.tab_keys.specs.Order.{text_cmp, key_lt, is_before}
 use Rattle.tab_keys.specs.TableNames.{folded}
@@ -21,7 +22,7 @@ use Rattle.tab_page.proofs.RisingLists.{Contains-filter, Contains-filtered, All-
 use Rattle.tab_page.proofs.OnePageLaws.{place_of, key_lt_in_table, place_from_start, listed_parts, listed_from}
 use Rattle.tab_page.proofs.PageCounts.{rows_ahead, matches_ahead, bounds_ahead, count_le, strictly_apart, one_way_rising, page_uses_up}
 use Rattle.tab_history.specs.World.{World, IsWorld, table_of}
-use Rattle.tab_history.specs.Legality.{State, accepted, world_after, after, after_all, Legal}
+use Rattle.tab_history.specs.Legality.{State, accepted, bounds_after, world_after, after, after_all, Legal}
 use Rattle.tab_history.specs.Followed.{Asked, Leg, Query, resolve_of, page_entry, entries_from, entries_of, rows_from, rows_of, IsFollowedFrom, IsFollowed, at_first, Leaves, IsUnwritten, IsStill, place_lt, first_key, is_answer, is_in_window, HasAllBounds, FollowedStill}
 use Rattle.tab_history.specs.declared.entries.Entry.{Entry}
 use Rattle.tab_history.proofs.FollowedLaws.{place_total, row_at-own, page_one, rows_start, rows_rise, looked_up, rows_whole, Had, had, Rises}
@@ -223,6 +224,15 @@ pages_bound top m r g legs n some c answers rows a b d =
     let second : c.by_rows ≤ rows / most_looked_at = (le-div_iff_mul-le {k = most_looked_at} (omega arith)).1 (let part : c.by_rows * most_looked_at ≤ r = c.rows in omega (arith, part, b)) in
     let third : c.by_bounds ≤ n = (let part : c.by_bounds ≤ g = c.bounds in omega (arith, part, d)) in
     omega (arith, all, first, second, third)
+
+-- where the bounds stay, those in force at the beginning are all
+all_the_same : (ever : List Bound) (state : State) (entries : List Entry) → state.bounds ≡ ever → AllByRecursion (λ entry. bounds_after ever entry ≡ ever) entries → HasAllBounds ever state entries
+all_the_same ever state [] e same = subst (All (Contains ever)) (sym e) (All-contains_itself ever)
+all_the_same ever state (entry ∷ entries) e same =
+    (subst (All (Contains ever)) (sym e) (All-contains_itself ever), all_the_same ever (after state entry) entries (ap (λ bounds. bounds_after bounds entry) e ∙ same.0) same.1)
+
+pub bounds_that_stay : (state : State) (entries : List Entry) → AllByRecursion (λ entry. bounds_after state.bounds entry ≡ state.bounds) entries → HasAllBounds state.bounds state entries
+bounds_that_stay state entries same = all_the_same state.bounds state entries refl same
 
 -- ---- a query in a history
 

@@ -141,7 +141,7 @@ ticks_rise opening history legal before between later first second key tick next
 -- ---- ticks of rows
 
 -- each row's tick is below its key's floor
-acted-below : (world : World) (operation : Doubt) → Acts world operation → All (λ row. row.tick < floor_of world.floors row.key) world.rows → All (λ row. row.tick < floor_of (acted world operation).floors row.key) (acted world operation).rows
+pub acted-below : (world : World) (operation : Doubt) → Acts world operation → All (λ row. row.tick < floor_of world.floors row.key) world.rows → All (λ row. row.tick < floor_of (acted world operation).floors row.key) (acted world operation).rows
 acted-below world (Changed table group tick) a h =
     subst (λ result. All below (result_unwrap_or result world.rows)) (sym a.0.1)
     (group-all below world.rows a.0.0 table tick group

@@ -1,9 +1,17 @@
-ghost use Rattle.std.specs.Prelude.{List};
+ghost use Rattle.std.specs.Prelude.{◌≡◌, List, ◌∷◌, []};
 ghost use Rattle.tab_history.specs.World.{IsWorld};
-ghost use Rattle.tab_history.specs.Legality.{State, Legal};
-ghost use Rattle.tab_history.specs.Followed.{FollowedWell, FollowedStill};
+ghost use Rattle.tab_history.specs.Legality.{State, Legal, after_all};
+ghost use Rattle.tab_history.specs.Kept.{HasTablesBelow};
+ghost use Rattle.tab_history.specs.Followed.{FollowedWell, FollowedStill, IsFollowed, entries_of, rows_of};
+ghost use Rattle.tab_history.specs.Example.{opening, query, row_of};
 ghost use Rattle.tab_history.specs.Ticks.{TicksRise, TicksTellRows};
 ghost use Rattle.tab_history.specs.declared.entries.Entry.{Entry};
+
+/// A legal history leads from a world to a world.
+pub fn worlds_stay()
+    ensures { (opening : State) (history : List Entry) → IsWorld opening.world → HasTablesBelow opening → Legal opening history
+        → IsWorld (after_all opening history).world × HasTablesBelow (after_all opening history) }
+{}
 
 /// Each query that is followed to its end in a legal history gives what it should.
 pub fn followed_queries()
@@ -23,4 +31,12 @@ pub fn ticks_rise()
 /// No tick of a row at a key comes again, so equal ETags are those of one row that stood unchanged.
 pub fn ticks_tell_rows()
     ensures { (opening : State) (history : List Entry) → IsWorld opening.world → Legal opening history → TicksTellRows opening history }
+{}
+
+/// There are such queries: one of two pages, between which a row was inserted and a range split.
+pub fn a_followed_query()
+    ensures world { IsWorld opening.world }
+    ensures legal { Legal opening (entries_of query) }
+    ensures followed { IsFollowed query }
+    ensures rows { rows_of query ≡ row_of 97 0 ∷ row_of 98 1 ∷ row_of 99 2 ∷ row_of 100 7 ∷ [] }
 {}

@@ -8,4 +8,6 @@ mod laws;
 
 pub use entries::{Bounds, Denied, Doubt, Entry, History};
 pub use exchanges::{Ask, Reply};
-pub use laws::{followed_queries, still_queries, ticks_rise, ticks_tell_rows};
+pub use laws::{
+    a_followed_query, followed_queries, still_queries, ticks_rise, ticks_tell_rows, worlds_stay,
+};
