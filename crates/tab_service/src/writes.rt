@@ -165,11 +165,11 @@ pub(crate) fn decided_delete(
         Ok(minimal) => minimal,
         Err(why) => return Ok(Err(why)),
     };
-    let condition = match condition_for(headers) {
-        Ok(condition) => condition,
+    let found = match condition_for(headers) {
+        Ok(found) => found,
         Err(why) => return Ok(Err(why)),
     };
-    match needed_condition(condition) {
+    match needed_condition(found) {
         Ok(condition) => Ok(Ok(change_request(
             alloc,
             account,
