@@ -1,4 +1,11 @@
 pub mod PageLaws
+pub mod TokenLaws
+pub mod KnownLaws
+pub mod SelectLaws
+pub mod WindowRuns
+pub mod WalkLaws
+pub mod RowRuns
+pub mod PrefixLaws
 pub mod RisingLists
 pub mod OnePageLaws
 pub mod PageCounts

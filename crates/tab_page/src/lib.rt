@@ -2,6 +2,7 @@
 //! next one begins.
 #![tactic(auto)]
 
+mod known;
 mod pages;
 mod queries;
 mod rule;
@@ -10,6 +11,6 @@ mod tokens;
 
 pub use pages::{Options, Page, PageRows};
 pub use queries::OptionRefused;
-pub use rule::{page, start_key};
+pub use rule::{page, page_prefix, start_key};
 pub use selects::{Names, Select};
-pub use tokens::{Token, TokenRefused};
+pub use tokens::{Token, TokenRefused, tokens_have_one_spelling};

@@ -1,9 +1,18 @@
-ghost use Rattle.std.specs.Prelude.{◌≡◌, ◌≢◌, Ok, Err, MatchResult};
-ghost use Rattle.tab_page.specs.Queries.{read_options, read_select};
+ghost use Rattle.std.specs.Prelude.{◌≡◌, ◌≢◌, ◌≤◌, Ok, Err, IfOk, IfSome, MatchResult};
+ghost use Rattle.std.specs.Cow.{cow_str_bytes};
+ghost use Rattle.tab_page.specs.Queries.{read_options, read_select, decoded, read_top, with_digit, with_digits, top_of, token_of, row_of, start_of, filter_of, select_of, options_of};
+ghost use Rattle.tab_page.specs.Known.{text_of};
 
-use crate::{Options, Select};
+use crate::known::known_options;
+use crate::{Options, Select, Token, TokenRefused};
+use form_urlencoded::decode;
 use std::alloc::Global;
-use tab_filter::FilterRefused;
+use std::borrow::CowStr;
+use tab_filter::{Filter, FilterRefused, parse};
+use tab_keys::KeyText;
+
+/// The most rows that a page may have, and how many it may have where the query does not say.
+const MOST_ROWS: u16 = 1000;
 
 /// Why the options of a query are refused.
 #[derive(Clone, Copy, Debug, PartialEq, Eq)]
@@ -21,23 +30,189 @@ pub enum OptionRefused {
 }
 
 impl Options {
+    #[tactic(auto, unfolding(crate::specs::Queries::read_options, crate::specs::Known::known_of))]
     /// What the query of an address asks for.
     pub fn read(alloc: Global, query: &str) -> Result<Options, OptionRefused>
         ensures { MatchResult result
             (λ options. read_options query.now ≡ Ok options)
             (λ why. why ≢ OptionRefused.Memory → read_options query.now ≡ Err why) }
     {
-        Err(OptionRefused::Memory)
+        let Ok(known) = known_options(alloc, query.as_bytes()) else {
+            return Err(OptionRefused::Memory);
+        };
+        let filter = known.filter.value()?;
+        let select = known.select.value()?;
+        let top = known.top.value()?;
+        let partition = known.partition.value()?;
+        let row = known.row.value()?;
+        options_of(alloc, filter, select, top, partition, row)
     }
 }
 
 impl Select {
+    #[tactic(auto, unfolding(crate::specs::Queries::read_select, crate::specs::Known::known_of))]
     /// The properties that the query of an address asks for; its other options are not looked at.
     pub fn read(alloc: Global, query: &str) -> Result<Select, OptionRefused>
         ensures { MatchResult result
             (λ select. read_select query.now ≡ Ok select)
             (λ why. why ≢ OptionRefused.Memory → read_select query.now ≡ Err why) }
     {
-        Err(OptionRefused::Memory)
+        let Ok(known) = known_options(alloc, query.as_bytes()) else {
+            return Err(OptionRefused::Memory);
+        };
+        select_of(alloc, known.select.value()?)
+    }
+}
+
+/// The options from their values, which are not decoded yet.
+fn options_of(
+    alloc: Global,
+    filter: Option<&[u8]>,
+    select: Option<&[u8]>,
+    top: Option<&[u8]>,
+    partition: Option<&[u8]>,
+    row: Option<&[u8]>,
+) -> Result<Options, OptionRefused>
+    ensures { MatchResult result
+        (λ options. options_of (text_of filter.entry) (text_of select.entry) (text_of top.entry) (text_of partition.entry) (text_of row.entry)
+            ≡ Ok options)
+        (λ why. why ≢ OptionRefused.Memory
+            → options_of (text_of filter.entry) (text_of select.entry) (text_of top.entry) (text_of partition.entry) (text_of row.entry)
+            ≡ Err why) }
+{
+    let top = top_of(alloc, top)?;
+    let start = start_of(alloc, partition, row)?;
+    let filter = filter_of(alloc, filter)?;
+    let select = select_of(alloc, select)?;
+    Ok(Options {
+        filter,
+        select,
+        top,
+        start,
+    })
+}
+
+fn text(alloc: Global, value: &[u8]) -> Result<CowStr<'_>, OptionRefused>
+    ensures { MatchResult result
+        (λ text. cow_str_bytes text ≡ decoded value.now)
+        (λ why. why ≡ OptionRefused.Memory) }
+{
+    decode(alloc, value).map_err(|_| OptionRefused::Memory)
+}
+
+fn top_of(alloc: Global, top: Option<&[u8]>) -> Result<u16, OptionRefused>
+    ensures { MatchResult result
+        (λ most. top_of (text_of top.entry) ≡ Ok most)
+        (λ why. why ≢ OptionRefused.Memory → top_of (text_of top.entry) ≡ Err why) }
+{
+    let Some(top) = top else {
+        return Ok(MOST_ROWS);
+    };
+    match read_top(text(alloc, top)?.as_bytes()) {
+        Some(most) => Ok(most),
+        None => Err(OptionRefused::BadTop),
+    }
+}
+
+fn read_top(text: &[u8]) -> Option<u16>
+    ensures { result ≡ read_top text.now }
+{
+    match text {
+        [] | [b'0', ..] => None,
+        digits => with_digits(0, digits),
+    }
+}
+
+fn with_digits(n: u16, digits: &[u8]) -> Option<u16>
+    requires { n ≤ 1000 }
+    ensures { result ≡ with_digits n digits.now }
+{
+    match digits {
+        [] => Some(n),
+        [first, rest @ ..] => with_digits(with_digit(n, *first)?, rest),
+    }
+}
+
+fn with_digit(n: u16, digit: u8) -> Option<u16>
+    requires { n ≤ 1000 }
+    ensures number { result ≡ with_digit n digit }
+    ensures small { IfSome result (λ m. m ≤ 1000) }
+{
+    if !digit.is_ascii_digit() {
+        return None;
+    }
+    let more = n * 10 + u16::from(digit - b'0');
+    if more <= MOST_ROWS { Some(more) } else { None }
+}
+
+fn start_of(
+    alloc: Global,
+    partition: Option<&[u8]>,
+    row: Option<&[u8]>,
+) -> Result<Option<(KeyText, KeyText)>, OptionRefused>
+    ensures { MatchResult result
+        (λ start. start_of (text_of partition.entry) (text_of row.entry) ≡ Ok start)
+        (λ why. why ≢ OptionRefused.Memory → start_of (text_of partition.entry) (text_of row.entry) ≡ Err why) }
+{
+    match (partition, row) {
+        (None, None) => Ok(None),
+        (None, Some(_)) => Err(OptionRefused::BadToken),
+        (Some(partition), row) => {
+            let pk = token_of(alloc, partition)?;
+            let rk = row_of(alloc, row)?;
+            Ok(Some((pk, rk)))
+        }
+    }
+}
+
+fn row_of(alloc: Global, row: Option<&[u8]>) -> Result<KeyText, OptionRefused>
+    ensures { MatchResult result
+        (λ rk. row_of (text_of row.entry) ≡ Ok rk)
+        (λ why. why ≢ OptionRefused.Memory → row_of (text_of row.entry) ≡ Err why) }
+{
+    match row {
+        Some(row) => token_of(alloc, row),
+        None => KeyText::new(alloc, "").map_err(|_| OptionRefused::Memory),
+    }
+}
+
+fn token_of(alloc: Global, token: &[u8]) -> Result<KeyText, OptionRefused>
+    ensures { MatchResult result
+        (λ key. token_of (decoded token.now) ≡ Ok key)
+        (λ why. why ≢ OptionRefused.Memory → token_of (decoded token.now) ≡ Err why) }
+{
+    match Token::read(alloc, text(alloc, token)?.as_str()) {
+        Ok(key) => Ok(key),
+        Err(TokenRefused::BadToken) => Err(OptionRefused::BadToken),
+        Err(TokenRefused::Memory) => Err(OptionRefused::Memory),
+    }
+}
+
+fn filter_of(alloc: Global, filter: Option<&[u8]>) -> Result<Option<Filter>, OptionRefused>
+    ensures { MatchResult result
+        (λ tree. filter_of (text_of filter.entry) ≡ Ok tree)
+        (λ why. why ≢ OptionRefused.Memory → filter_of (text_of filter.entry) ≡ Err why) }
+{
+    let Some(filter) = filter else {
+        return Ok(None);
+    };
+    match parse(alloc, text(alloc, filter)?.as_str()) {
+        Ok(filter) => Ok(Some(filter)),
+        Err(FilterRefused::Memory) => Err(OptionRefused::Memory),
+        Err(why) => Err(OptionRefused::Filter(why)),
+    }
+}
+
+fn select_of(alloc: Global, select: Option<&[u8]>) -> Result<Select, OptionRefused>
+    ensures { MatchResult result
+        (λ named. named ≡ select_of (text_of select.entry))
+        (λ why. why ≡ OptionRefused.Memory) }
+{
+    let Some(select) = select else {
+        return Ok(Select::All);
+    };
+    match Select::named(alloc, text(alloc, select)?.as_str()) {
+        Ok(select) => Ok(select),
+        Err(_) => Err(OptionRefused::Memory),
     }
 }

@@ -1,5 +1,6 @@
-ghost use Rattle.std.specs.Prelude.{◌≡◌, IfOk, bytes_eq, map, string_bytes};
+ghost use Rattle.std.specs.Prelude.{◌≡◌, [], ◌∷◌, ◌++◌, IfOk, OnOk, bytes_eq, filter, map, reverse, string_bytes};
 ghost use Rattle.std.specs.List.{list_any};
+ghost use Rattle.tab_page.specs.Queries.{selection, asks_for_all, names_in, is_name, trimmed, without_spaces};
 
 use std::alloc::Global;
 use std::marker::Model;
@@ -79,4 +80,75 @@ impl Select {
             Select::Names(names) => Ok(Select::Names(names.try_copy(alloc)?)),
         }
     }
+}
+
+impl Select {
+    /// What the value of `$select` asks for.
+    pub(crate) fn named(alloc: Global, text: &str) -> Result<Select, Memory>
+        ensures { IfOk result (λ select. select ≡ selection (names_in text.now)) }
+    {
+        let names = names_in(alloc, text)?;
+        if asks_for_all(names.as_slice()) {
+            Ok(Select::All)
+        } else {
+            Ok(Select::Names(Names::new(names)))
+        }
+    }
+}
+
+fn asks_for_all(names: &[String]) -> bool
+    ensures { result ≡ asks_for_all (map string_bytes names.now) }
+{
+    names.is_empty() || has_text(names, "*")
+}
+
+/// The names between commas, without the spaces round them.
+fn names_in(alloc: Global, text: &str) -> Result<Vec<String>, Memory>
+    ensures { IfOk result (λ names. map string_bytes names.items ≡ names_in text.now) }
+{
+    let mut names = Vec::new(alloc);
+    for piece in text.split(',') {
+        add_name(alloc, &mut names, trimmed(piece))?;
+    }
+    Ok(names)
+}
+
+/// Adds a copy of the name, if it is not empty.
+fn add_name(alloc: Global, names: &mut Vec<String>, name: &str) -> Result<(), Memory>
+    ensures { OnOk result (map string_bytes names.new.items ≡ map string_bytes names.old.items ++ filter is_name (name.now ∷ [])) }
+{
+    if name.is_empty() {
+        return Ok(());
+    }
+    let Ok(copy) = String::from_str(alloc, name) else {
+        return Err(Memory);
+    };
+    match names.push(copy) {
+        Ok(()) => Ok(()),
+        Err(_) => Err(Memory),
+    }
+}
+
+fn trimmed(text: &str) -> &str
+    ensures { result.now ≡ trimmed text.now }
+{
+    without_last_spaces(without_first_spaces(text))
+}
+
+fn without_first_spaces(mut text: &str) -> &str
+    ensures { result.now ≡ without_spaces text.now }
+{
+    while let Some(rest) = text.strip_prefix(' ') {
+        text = rest;
+    }
+    text
+}
+
+fn without_last_spaces(mut text: &str) -> &str
+    ensures { result.now ≡ reverse (without_spaces (reverse text.now)) }
+{
+    while let Some(rest) = text.strip_suffix(' ') {
+        text = rest;
+    }
+    text
 }

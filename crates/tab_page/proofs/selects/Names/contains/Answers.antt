@@ -1,10 +1,7 @@
 use Rattle.std.proofs.Common.{◌≡◌, List, [], ◌∷◌, ◌||◌, Bool, map, refl, ap, ◌∙◌, sym, string_bytes, bytes_eq}
 use Rattle.std.specs.List.{list_any}
+use Rattle.tab_page.proofs.SelectLaws.{list_any-map}
 use Rattle.tab_page.proofs.selects.Names.contains.Goals as goal
-
-list_any-map : {X Y : Type 0} (p : Y → Bool) (f : X → Y) (xs : List X) → list_any p (map f xs) ≡ list_any (λ x. p (f x)) xs
-list_any-map p f [] = refl
-list_any-map p f (x ∷ xs) = ap (λ b. p (f x) || b) (list_any-map p f xs)
 
 pub returns : goal.returns
 returns c =
