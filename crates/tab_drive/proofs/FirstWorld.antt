@@ -1,19 +1,23 @@
 -- What every history over the first world gives.
-use Rattle.std.proofs.Common.{◌≡◌, ℕ, List, [], ◌∷◌, All, AllPairs, arith, length, ◌<◌}
-use Rattle.tab_history.specs.World.{IsWorld}
+use Rattle.std.proofs.Common.{◌≡◌, ℕ, List, [], ◌∷◌, zero, suc, get_or, arith, ◌<◌}
+use Rattle.tab_history.specs.World.{Named, IsWorld}
 use Rattle.tab_history.specs.Legality.{Legal}
 use Rattle.tab_history.specs.Followed.{FollowedWell, FollowedStill}
-use Rattle.tab_history.specs.Ticks.{TicksTellRows}
+use Rattle.tab_history.specs.Ticks.{TicksRise, TicksTellRows}
 use Rattle.tab_history.specs.declared.entries.Entry.{Entry}
 use Rattle.tab_history.proofs.FollowedLaws.{followed_well}
 use Rattle.tab_history.proofs.StillLaws.{followed_still}
-use Rattle.tab_history.proofs.TickLaws.{ticks_tell_rows}
+use Rattle.tab_history.proofs.TickLaws.{ticks_rise, ticks_tell_rows}
 use Rattle.tab_drive.specs.Walk.{first_world, first_state}
+
+name_below : (k : ℕ) (d : Named) → k < 1 → (get_or first_world.names k d).table < 2
+name_below zero d within = omega arith
+name_below (suc k) d within = absurd (omega (arith, within))
 
 pub is_world : IsWorld first_world
 is_world = record {
   names_rise = λ i j d less within. absurd (omega (arith, less, within));
-  names_below = λ k d within. search;
+  names_below = name_below;
   rows_rise = λ i j d less within. absurd (omega (arith, within));
   rows_below = λ k d within. absurd (omega (arith, within));
   ticks_below = λ k d within. absurd (omega (arith, within));
@@ -27,3 +31,6 @@ gives_still history legal = followed_still first_state history is_world legal
 
 pub tells_rows : (history : List Entry) → Legal first_state history → TicksTellRows first_state history
 tells_rows history legal = ticks_tell_rows first_state history is_world legal
+
+pub rises : (history : List Entry) → Legal first_state history → TicksRise history
+rises history legal = ticks_rise first_state history legal
