@@ -17,13 +17,13 @@ returns-in-Ok-clause-complete g c account bytes words told servable sound kept =
     c.in-Ok.ensures.legal c.in-Ok.ensures.stops c.in-Ok.ensures.read_fault (λ is. let rose = c.in-Ok.ensures.write_fault is in omega (arith, rose, c.write_last_line.ensures.later)) sound kept)
 
 pub returns-in-Ok-clause-followed : goal.returns-in-Ok-clause-followed
-returns-in-Ok-clause-followed g c = gives_followed c.new-in-Ok.result (rw (← c.new-in-Ok.ensures) c.in-Ok.ensures.legal)
+returns-in-Ok-clause-followed g c = gives_followed c.new-in-Ok.result (rw c.new-in-Ok.ensures c.in-Ok.ensures.legal)
 
 pub returns-in-Ok-clause-still : goal.returns-in-Ok-clause-still
-returns-in-Ok-clause-still g c = gives_still c.new-in-Ok.result (rw (← c.new-in-Ok.ensures) c.in-Ok.ensures.legal)
+returns-in-Ok-clause-still g c = gives_still c.new-in-Ok.result (rw c.new-in-Ok.ensures c.in-Ok.ensures.legal)
 
 pub returns-in-Ok-clause-ticks : goal.returns-in-Ok-clause-ticks
-returns-in-Ok-clause-ticks g c = rises c.new-in-Ok.result (rw (← c.new-in-Ok.ensures) c.in-Ok.ensures.legal)
+returns-in-Ok-clause-ticks g c = rises c.new-in-Ok.result (rw c.new-in-Ok.ensures c.in-Ok.ensures.legal)
 
 pub returns-in-Ok-clause-versions : goal.returns-in-Ok-clause-versions
-returns-in-Ok-clause-versions g c = tells_rows c.new-in-Ok.result (rw (← c.new-in-Ok.ensures) c.in-Ok.ensures.legal)
+returns-in-Ok-clause-versions g c = tells_rows c.new-in-Ok.result (rw c.new-in-Ok.ensures c.in-Ok.ensures.legal)
