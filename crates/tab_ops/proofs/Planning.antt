@@ -185,3 +185,10 @@ planned_keys rows changes table tick items i end planned = planned.keys ∙ ap (
 pub planned_count : (rows : List RowView) (changes : List Change) (table tick : ℕ) (items : List ItemView) (i : ℕ) → length items ≤ i → Planned rows changes table tick items i → length changes ≡ length items
 planned_count rows changes table tick items i end planned =
     sym (length-map changes change_key) ∙ (ap length (planned_keys rows changes table tick items i end planned) ∙ length-map items (item_key table))
+
+-- one item more, as the loop has it
+pub planned_step : {rows : List RowView} {changes longer : List Change} {change : Change} {table tick : ℕ} {group items : List ItemView} {i : ℕ} {item : ItemView}
+    → Planned rows changes table tick items i → change_of i rows table tick item ≡ Ok change → longer ≡ changes ++ change ∷ []
+    → item ≡ get_or items i item → items ≡ group → AreApart group → i < length items → Planned rows longer table tick items (i + 1)
+planned_step {rows} {changes} {longer} {change} {table} {tick} {group} {items} {i} {item} planned makes_it is here lent apart within =
+    rw is (planned_more rows changes table tick items i item within here planned change (subst AreApart (sym lent) apart) makes_it)

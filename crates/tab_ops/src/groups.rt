@@ -125,19 +125,17 @@ impl Group {
     pub fn try_copy(&self, alloc: Global) -> Result<Group, Memory>
         ensures { IfOk result (λ copy. copy ≡ self.now) }
     {
-        match copied(alloc, self.items.as_slice()) {
-            Ok(items) => Ok(Group { items }),
-            Err(_) => Err(Memory),
-        }
+        let items = copied(alloc, self.items.as_slice())?;
+        Ok(Group { items })
     }
 }
 
-fn copied(alloc: Global, items: &[Item]) -> Result<Vec<Item>, OpRefused>
+fn copied(alloc: Global, items: &[Item]) -> Result<Vec<Item>, Memory>
     ensures { IfOk result (λ copies. copies.items ≡ items.now) }
 {
-    let mut copies = Vec::with_capacity(alloc, items.len())?;
+    let mut copies = Vec::with_capacity(alloc, items.len()).map_err(|_| Memory)?;
     for item in items {
-        copies.push(item.try_copy(alloc)?)?;
+        copies.push(item.try_copy(alloc)?).map_err(|_| Memory)?;
     }
     Ok(copies)
 }

@@ -54,19 +54,17 @@ impl ChangeList {
     pub fn try_copy(&self, alloc: Global) -> Result<ChangeList, Memory>
         ensures { IfOk result (λ copy. copy ≡ self.now) }
     {
-        match copied(alloc, self.changes.as_slice()) {
-            Ok(changes) => Ok(ChangeList { changes }),
-            Err(_) => Err(Memory),
-        }
+        let changes = copied(alloc, self.changes.as_slice())?;
+        Ok(ChangeList { changes })
     }
 }
 
-fn copied(alloc: Global, changes: &[Change]) -> Result<Vec<Change>, OpRefused>
+fn copied(alloc: Global, changes: &[Change]) -> Result<Vec<Change>, Memory>
     ensures { IfOk result (λ copies. copies.items ≡ changes.now) }
 {
-    let mut copies = Vec::with_capacity(alloc, changes.len())?;
+    let mut copies = Vec::with_capacity(alloc, changes.len()).map_err(|_| Memory)?;
     for change in changes {
-        copies.push(change.try_copy(alloc)?)?;
+        copies.push(change.try_copy(alloc)?).map_err(|_| Memory)?;
     }
     Ok(copies)
 }
@@ -91,6 +89,7 @@ impl Changes {
 
 /// The changes that a group makes of a table's rows with this tick, or why it makes none. The rows are looked at where
 /// the group's operations act, and copied nowhere.
+#[tactic(auto, using(crate::proofs::Planning::planned_stops, crate::proofs::Planning::planned_all, crate::proofs::Planning::planned_keys, crate::proofs::Planning::planned_count))]
 pub fn plan(
     alloc: Global,
     rows: &Rows,

@@ -138,10 +138,8 @@ const NOT_THERE: Option<OpRefused> = Some(OpRefused::NotThere { index: 0 });
 
 const OTHER_TICK: Option<OpRefused> = Some(OpRefused::Condition { index: 0, tick: 3 });
 
-// Each operation gives B 1 with tick 7.
 #[test]
 fn operations_on_an_absent_row(rt: HostRuntime) -> Result<(), Fail> {
-    let alloc = rt.alloc();
     for (kind, condition, want) in [
         ("Insert", Match::Any, None),
         ("Update", Match::Any, NOT_THERE),
@@ -153,43 +151,72 @@ fn operations_on_an_absent_row(rt: HostRuntime) -> Result<(), Fail> {
         ("Delete", Match::Any, NOT_THERE),
         ("Delete", Match::Tick(0), NOT_THERE),
     ] {
-        let mut rows = Rows::new(alloc);
-        let op = operation(&rt, alloc, kind, condition, "B", 1)?;
-        assert_eq!(rt; act_alone(&rt, alloc, &mut rows, 7, op)?, want, "{kind}");
-        let stands = want.is_none();
-        assert_eq!(rt; number_at(alloc, &rows, "r", "B")?, stands.then_some(1));
-        assert_eq!(rt; tick_at(alloc, &rows, "r")?, stands.then_some(7));
+        let rows = Rows::new(rt.alloc());
+        acts(
+            &rt,
+            rt.alloc(),
+            rows,
+            kind,
+            condition,
+            want,
+            if want.is_none() { "B7" } else { "" },
+        )?;
     }
     Ok(())
 }
 
-// Each operation gives B 1 with tick 7 to a row with A 5 and tick 3.
 #[test]
 fn operations_on_a_row_that_is_there(rt: HostRuntime) -> Result<(), Fail> {
-    let alloc = rt.alloc();
-    for (kind, condition, want, a, b, tick) in [
-        ("Insert", Match::Any, ALREADY, Some(5), None, Some(3)),
-        ("Update", Match::Any, None, None, Some(1), Some(7)),
-        ("Update", Match::Tick(3), None, None, Some(1), Some(7)),
-        ("Update", Match::Tick(7), OTHER_TICK, Some(5), None, Some(3)),
-        ("Replace", Match::Any, None, None, Some(1), Some(7)),
-        ("Merge", Match::Any, None, Some(5), Some(1), Some(7)),
-        ("Merge", Match::Tick(3), None, Some(5), Some(1), Some(7)),
-        ("Merge", Match::Tick(2), OTHER_TICK, Some(5), None, Some(3)),
-        ("MergeIn", Match::Any, None, Some(5), Some(1), Some(7)),
-        ("Delete", Match::Any, None, None, None, None),
-        ("Delete", Match::Tick(3), None, None, None, None),
-        ("Delete", Match::Tick(4), OTHER_TICK, Some(5), None, Some(3)),
+    for (kind, condition, want, left) in [
+        ("Insert", Match::Any, ALREADY, "A3"),
+        ("Update", Match::Any, None, "B7"),
+        ("Update", Match::Tick(3), None, "B7"),
+        ("Update", Match::Tick(7), OTHER_TICK, "A3"),
+        ("Replace", Match::Any, None, "B7"),
+        ("Merge", Match::Any, None, "AB7"),
+        ("Merge", Match::Tick(3), None, "AB7"),
+        ("Merge", Match::Tick(2), OTHER_TICK, "A3"),
+        ("MergeIn", Match::Any, None, "AB7"),
+        ("Delete", Match::Any, None, ""),
+        ("Delete", Match::Tick(3), None, ""),
+        ("Delete", Match::Tick(4), OTHER_TICK, "A3"),
     ] {
-        let mut rows = Rows::new(alloc);
-        let kept = operation(&rt, alloc, "Insert", Match::Any, "A", 5)?;
-        assert_eq!(rt; act_alone(&rt, alloc, &mut rows, 3, kept)?, None);
-        let op = operation(&rt, alloc, kind, condition, "B", 1)?;
-        assert_eq!(rt; act_alone(&rt, alloc, &mut rows, 7, op)?, want, "{kind}");
-        assert_eq!(rt; number_at(alloc, &rows, "r", "A")?, a, "{kind}");
-        assert_eq!(rt; number_at(alloc, &rows, "r", "B")?, b, "{kind}");
-        assert_eq!(rt; tick_at(alloc, &rows, "r")?, tick, "{kind}");
+        let rows = one_row(&rt, rt.alloc())?;
+        acts(&rt, rt.alloc(), rows, kind, condition, want, left)?;
     }
+    Ok(())
+}
+
+// A row with A 1 and tick 3.
+fn one_row(rt: &impl Abort, alloc: Global) -> Result<Rows, Fail> {
+    let mut rows = Rows::new(alloc);
+    let op = operation(rt, alloc, "Insert", Match::Any, "A", 1)?;
+    assert_eq!(rt; act_alone(rt, alloc, &mut rows, 3, op)?, None);
+    Ok(rows)
+}
+
+// The operation gives B 1 with tick 7, and leaves the properties that are named with this tick.
+fn acts(
+    rt: &impl Abort,
+    alloc: Global,
+    mut rows: Rows,
+    kind: &str,
+    condition: Match,
+    want: Option<OpRefused>,
+    left: &str,
+) -> Result<(), Fail> {
+    let op = operation(rt, alloc, kind, condition, "B", 1)?;
+    assert_eq!(rt; act_alone(rt, alloc, &mut rows, 7, op)?, want, "{kind}");
+    let mut seen = String::new(alloc);
+    for name in ["A", "B"] {
+        if number_at(alloc, &rows, "r", name)?.is_some() {
+            seen.push_str(name)?;
+        }
+    }
+    if let Some(tick) = tick_at(alloc, &rows, "r")? {
+        seen.push_str(format!(in alloc; "{tick}")?.as_str())?;
+    }
+    assert_eq!(rt; seen.as_str(), left, "{kind}");
     Ok(())
 }
 
@@ -198,8 +225,7 @@ fn merges_keep_replace_and_join(rt: HostRuntime) -> Result<(), Fail> {
     let alloc = rt.alloc();
     let mut rows = Rows::new(alloc);
     for (name, number) in [("B", 1), ("A", 2), ("C", 3), ("b", 4), ("B", 5)] {
-        let op = operation(&rt, alloc, "MergeIn", Match::Any, name, number)?;
-        assert_eq!(rt; act_alone(&rt, alloc, &mut rows, GREATEST, op)?, None);
+        merges(&rt, alloc, &mut rows, name, number, None)?;
     }
     for (name, want) in [("A", 2), ("B", 5), ("C", 3), ("b", 4)] {
         assert_eq!(rt; number_at(alloc, &rows, "r", name)?, Some(want), "{name}");
@@ -214,13 +240,24 @@ fn merges_join_up_to_252_properties(rt: HostRuntime) -> Result<(), Fail> {
     let mut rows = Rows::new(alloc);
     for number in 0..254 {
         let name = format!(in alloc; "n{number:03}")?;
-        let op = operation(&rt, alloc, "MergeIn", Match::Any, name.as_str(), number)?;
         let want = (number >= 252).then_some(OpRefused::TooMany { index: 0 });
-        assert_eq!(rt; act_alone(&rt, alloc, &mut rows, 1, op)?, want);
+        merges(&rt, alloc, &mut rows, name.as_str(), number, want)?;
     }
-    let op = operation(&rt, alloc, "MergeIn", Match::Any, "n100", -1)?;
-    assert_eq!(rt; act_alone(&rt, alloc, &mut rows, 1, op)?, None);
+    merges(&rt, alloc, &mut rows, "n100", -1, None)?;
     assert_eq!(rt; number_at(alloc, &rows, "r", "n100")?, Some(-1));
+    Ok(())
+}
+
+fn merges(
+    rt: &impl Abort,
+    alloc: Global,
+    rows: &mut Rows,
+    name: &str,
+    number: i32,
+    want: Option<OpRefused>,
+) -> Result<(), Fail> {
+    let op = operation(rt, alloc, "MergeIn", Match::Any, name, number)?;
+    assert_eq!(rt; act_alone(rt, alloc, rows, GREATEST, op)?, want, "{name}");
     Ok(())
 }
 
@@ -237,12 +274,23 @@ fn merges_join_up_to_the_largest_size(rt: HostRuntime) -> Result<(), Fail> {
         ("P", 32_768, None),
     ] {
         for name in names.split(' ') {
-            let letters = repeated(alloc, count)?;
-            let text = Value::Text(TextValue::new(letters));
-            let op = Op::MergeIn(entity(&rt, alloc, name, text)?);
-            assert_eq!(rt; act_alone(&rt, alloc, &mut rows, 1, op)?, want, "{name}");
+            merges_text(&rt, alloc, &mut rows, name, count, want)?;
         }
     }
+    Ok(())
+}
+
+fn merges_text(
+    rt: &impl Abort,
+    alloc: Global,
+    rows: &mut Rows,
+    name: &str,
+    count: usize,
+    want: Option<OpRefused>,
+) -> Result<(), Fail> {
+    let text = Value::Text(TextValue::new(repeated(alloc, count)?));
+    let op = Op::MergeIn(entity(rt, alloc, name, text)?);
+    assert_eq!(rt; act_alone(rt, alloc, rows, 1, op)?, want, "{name}");
     Ok(())
 }
 
@@ -274,7 +322,6 @@ fn refusal(items: Vec<Item>) -> Option<GroupRefused> {
 
 #[test]
 fn groups_are_refused(rt: HostRuntime) -> Result<(), Fail> {
-    let alloc = rt.alloc();
     let one = ("Goods", "p", "a");
     let two = ("gOODS", "p", "b");
     let table = ("Good", "p", "c");
@@ -282,14 +329,30 @@ fn groups_are_refused(rt: HostRuntime) -> Result<(), Fail> {
     let again = ("GOODS", "p", "a");
     let mixed = |index| Some(GroupRefused::MixedPartitions { index });
     let doubled = |index| Some(GroupRefused::DoubledRow { index });
-    assert_eq!(rt; refusal(deletes(alloc, &[])?), Some(GroupRefused::Empty));
-    assert_eq!(rt; refusal(deletes(alloc, &[one])?), None);
-    assert_eq!(rt; refusal(deletes(alloc, &[one, two])?), None);
-    assert_eq!(rt; refusal(deletes(alloc, &[one, table, two])?), mixed(1));
-    assert_eq!(rt; refusal(deletes(alloc, &[one, two, partition])?), mixed(2));
-    assert_eq!(rt; refusal(deletes(alloc, &[one, two, again])?), doubled(2));
-    assert_eq!(rt; refusal(deletes(alloc, &[one, again, again])?), doubled(1));
-    assert_eq!(rt; refusal(deletes(alloc, &[one, again, table])?), mixed(2));
+    refuses(
+        &rt,
+        rt.alloc(),
+        &[
+            (&[], Some(GroupRefused::Empty)),
+            (&[one], None),
+            (&[one, two], None),
+            (&[one, table, two], mixed(1)),
+            (&[one, two, partition], mixed(2)),
+            (&[one, two, again], doubled(2)),
+            (&[one, again, again], doubled(1)),
+            (&[one, again, table], mixed(2)),
+        ],
+    )
+}
+
+fn refuses(
+    rt: &impl Abort,
+    alloc: Global,
+    cases: &[(&[(&str, &str, &str)], Option<GroupRefused>)],
+) -> Result<(), Fail> {
+    for (rows, want) in cases {
+        assert_eq!(rt; refusal(deletes(alloc, rows)?), *want);
+    }
     Ok(())
 }
 
@@ -319,43 +382,56 @@ fn group(rt: &impl Abort, alloc: Global, ops: &[(&str, &str)]) -> Result<Group, 
 
 #[test]
 fn groups_act_as_a_whole_or_not_at_all(rt: HostRuntime) -> Result<(), Fail> {
-    let alloc = rt.alloc();
-    let mut rows = Rows::new(alloc);
-    let first = group(
-        &rt,
-        alloc,
-        &[("a", "Insert"), ("b", "Insert"), ("c", "Insert")],
-    )?;
-    assert_eq!(rt; act(alloc, &mut rows, 3, &first)?, None);
-    for (ops, want) in [
+    let already = |index| Some(OpRefused::AlreadyThere { index });
+    let not_there = |index| Some(OpRefused::NotThere { index });
+    for (ops, want, left) in [
         (
             [("d", "Insert"), ("b", "Insert"), ("c", "Delete")],
-            OpRefused::AlreadyThere { index: 1 },
+            already(1),
+            "a3 b3 c3 ",
         ),
         (
             [("a", "Delete"), ("d", "Merge"), ("b", "Insert")],
-            OpRefused::NotThere { index: 1 },
+            not_there(1),
+            "a3 b3 c3 ",
         ),
         (
             [("d", "Insert"), ("a", "Update"), ("e", "Delete")],
-            OpRefused::NotThere { index: 2 },
+            not_there(2),
+            "a3 b3 c3 ",
+        ),
+        (
+            [("d", "Insert"), ("a", "Delete"), ("b", "Merge")],
+            None,
+            "b7 c3 d7 ",
         ),
     ] {
-        let group = group(&rt, alloc, &ops)?;
-        assert_eq!(rt; act(alloc, &mut rows, 7, &group)?, Some(want));
-        for (rk, tick) in [("a", Some(3)), ("b", Some(3)), ("c", Some(3)), ("d", None)] {
-            assert_eq!(rt; tick_at(alloc, &rows, rk)?, tick, "{rk}");
+        acts_together(&rt, rt.alloc(), &ops, want, left)?;
+    }
+    Ok(())
+}
+
+// The operations act with tick 7 on three rows with tick 3, and leave rows with these keys and ticks.
+fn acts_together(
+    rt: &impl Abort,
+    alloc: Global,
+    ops: &[(&str, &str)],
+    want: Option<OpRefused>,
+    left: &str,
+) -> Result<(), Fail> {
+    let mut rows = Rows::new(alloc);
+    let inserts = [("a", "Insert"), ("b", "Insert"), ("c", "Insert")];
+    let first = group(rt, alloc, &inserts)?;
+    assert_eq!(rt; act(alloc, &mut rows, 3, &first)?, None);
+    let second = group(rt, alloc, ops)?;
+    assert_eq!(rt; act(alloc, &mut rows, 7, &second)?, want);
+    let mut seen = String::new(alloc);
+    for rk in ["a", "b", "c", "d", "e"] {
+        if let Some(tick) = tick_at(alloc, &rows, rk)? {
+            seen.push_str(format!(in alloc; "{rk}{tick} ")?.as_str())?;
         }
     }
-    let last = group(
-        &rt,
-        alloc,
-        &[("d", "Insert"), ("a", "Delete"), ("b", "Merge")],
-    )?;
-    assert_eq!(rt; act(alloc, &mut rows, 7, &last)?, None);
-    for (rk, tick) in [("a", None), ("b", Some(7)), ("c", Some(3)), ("d", Some(7))] {
-        assert_eq!(rt; tick_at(alloc, &rows, rk)?, tick, "{rk}");
-    }
+    assert_eq!(rt; seen.as_str(), left);
     Ok(())
 }
 
