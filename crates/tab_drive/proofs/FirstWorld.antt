@@ -17,6 +17,7 @@ name_below (suc k) d within = absurd (omega (arith, within))
 pub is_world : IsWorld first_world
 is_world = record {
   names_rise = λ i j d less within. absurd (omega (arith, less, within));
+  numbers_differ = λ i j d less within. absurd (omega (arith, less, within));
   names_below = name_below;
   rows_rise = λ i j d less within. absurd (omega (arith, within));
   rows_below = λ k d within. absurd (omega (arith, within));

@@ -165,6 +165,14 @@ pub record Replied (old new : Session) (request : Request) (text : List ℕ) : T
   pub number : new.number ≡ old.number + 1
   pub moment : new.moment ≡ old.moment
 
+-- nothing changed but the room for more
+pub record Unchanged (old new : Session) : Type 0 where
+  pub history : new.history.items ≡ old.history.items
+  pub rows : new.rows.rows ≡ old.rows.rows
+  pub next : new.next_tick ≡ old.next_tick
+  pub number : new.number ≡ old.number
+  pub moment : new.moment ≡ old.moment
+
 -- a request was refused, and nothing changed but the number of the next event
 pub record RefusedAt (old new : Session) : Type 0 where
   pub history : new.history.items ≡ old.history.items

@@ -7,7 +7,7 @@ ghost use Rattle.tab_history.specs.declared.entries.Entry.{Entry};
 ghost use Rattle.tab_drive.specs.Walk.{Walk, first_walk, opening, IsOutOfForm, name_of, reply_outcome};
 ghost use Rattle.tab_service.specs.Replies.{reply_text};
 ghost use Rattle.tab_drive.specs.Outgoing.{outgoing_text};
-ghost use Rattle.tab_drive.specs.Sessions.{goods, Keeps, Stepped, Replied, IsOutOfFormEvent, IsServedAsk, IsDecided, RefusedAt, found_or_not, get_entry, page_entry, change_entry, entry_of, entries_for, rows_then, next_then};
+ghost use Rattle.tab_drive.specs.Sessions.{goods, Unchanged, Keeps, Stepped, Replied, IsOutOfFormEvent, IsServedAsk, IsDecided, RefusedAt, found_or_not, get_entry, page_entry, change_entry, entry_of, entries_for, rows_then, next_then};
 
 use crate::applying::apply;
 use crate::outgoing::Outgoing;
@@ -69,8 +69,8 @@ impl Session {
         })
     }
 
-    /// Takes one event: adds its entries to the history and answers what it gives to be written. After a refusal the
-    /// history is as before.
+    /// Takes one event: adds its entries to the history and answers what it gives to be written. After a refusal all is
+    /// as before.
     pub fn step(
         &mut self,
         alloc: Global,
@@ -80,7 +80,7 @@ impl Session {
         requires { self.old.number < 2 ^ 64 - 1 }
         ensures ok { (walk : Walk) → Keeps self.old walk → IfOk result (λ outgoing. Stepped account.now walk event (outgoing_text outgoing) self.old self.new) }
         ensures refused { (walk : Walk) → Keeps self.old walk → IsErrOf result StepRefused.OutOfForm → IsOutOfFormEvent account.now walk event }
-        ensures err { OnErr result (self.new.history.items ≡ self.old.history.items) }
+        ensures err { OnErr result (Unchanged self.old self.new) }
     {
         match event {
             Scheduled::Now { moment } => {
@@ -102,7 +102,7 @@ impl Session {
         requires number { self.old.number < 2 ^ 64 - 1 }
         ensures ok { (walk : Walk) → Keeps self.old walk → IfOk result (λ outgoing. Stepped account.now walk (Scheduled.Call message.now) (outgoing_text outgoing) self.old self.new) }
         ensures refused { IsErrOf result StepRefused.OutOfForm → IsOutOfForm account.now message.now }
-        ensures err { OnErr result (self.new.history.items ≡ self.old.history.items) }
+        ensures err { OnErr result (Unchanged self.old self.new) }
     {
         match decide(alloc, account, message.as_slice()) {
             Ok(Some(Decision::Go(request))) => match self.answer(alloc, request) {
@@ -130,7 +130,7 @@ impl Session {
         requires number { self.old.number < 2 ^ 64 - 1 }
         requires served { IsServedAsk request.ask }
         ensures ok { IfOk result (λ outgoing. Replied self.old self.new request (outgoing_text outgoing)) }
-        ensures err { OnErr result (self.new.history.items ≡ self.old.history.items) }
+        ensures err { OnErr result (Unchanged self.old self.new) }
     {
         if self.history.reserve(2).is_err() {
             return Err(Memory);

@@ -1,6 +1,6 @@
 -- The example is a legal history of a followed query.
 use Rattle.std.proofs.Common.{◌≡◌, ℕ, ◌<◌, ◌≤◌, List, [], ◌∷◌, refl, sym, subst, inl, arith}
-use Rattle.std.specs.Prelude.{IsTrue, Some, Ok}
+use Rattle.std.specs.Prelude.{IsTrue, IsFalse, ◌==◌, Some, Ok}
 use Rattle.std.specs.Str.{chars}
 use Rattle.std.specs.Ordering.{is_lt}
 use Rattle.std.proofs.lemmas.List.Elements.{All-nil, All-cons}
@@ -43,6 +43,9 @@ pub example_world : IsWorld opening.world
 example_world = record {
   names_rise =
       let R = λ (a b : Named). IsTrue (is_lt (name_cmp a.spelling b.spelling)) in
+      AllPairs-cons R (record { spelling = cats; table = 1 }) [] (All-nil (R (record { spelling = cats; table = 1 }))) (AllPairs-nil R);
+  numbers_differ =
+      let R = λ (a b : Named). IsFalse (a.table == b.table) in
       AllPairs-cons R (record { spelling = cats; table = 1 }) [] (All-nil (R (record { spelling = cats; table = 1 }))) (AllPairs-nil R);
   names_below = All-cons (λ (named : Named). named.table < 2) (record { spelling = cats; table = 1 }) [] (omega arith) (All-nil (λ (named : Named). named.table < 2));
   rows_rise = rows_rise;

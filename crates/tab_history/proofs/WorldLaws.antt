@@ -46,6 +46,7 @@ told_below next (first ∷ tables) ask table h e = by_test (λ k. told_below nex
 change_keeps : (world : World) (table tick : ℕ) (group : List ItemView) → Acts world (Changed table group tick) → table < world.next_table → IsWorld world → IsWorld (acted world (Changed table group tick))
 change_keeps world table tick group a below h = record {
   names_rise = h.names_rise;
+  numbers_differ = h.numbers_differ;
   names_below = h.names_below;
   rows_rise = acted-rising world (Changed table group tick) a h.rows_rise;
   rows_below =

@@ -1,5 +1,5 @@
 -- The world: one ordered map of rows, the tables' names, and the floor of each key.
-use Rattle.std.specs.Prelude.{◌≡◌, ℕ, ◌+◌, ◌<◌, ◌≤◌, ◌⊎◌, List, [], ◌∷◌, ◌++◌, map, find, All, AllPairs, IsTrue, bytes_eq, Option, Some, None, option_map, unwrap_or}
+use Rattle.std.specs.Prelude.{◌≡◌, ℕ, ◌+◌, ◌<◌, ◌≤◌, ◌⊎◌, List, [], ◌∷◌, ◌++◌, map, find, All, AllPairs, IsTrue, IsFalse, ◌==◌, bytes_eq, Option, Some, None, option_map, unwrap_or}
 use Rattle.std.specs.Ordering.{is_lt}
 use Rattle.tab_keys.specs.Order.{same_key, name_cmp}
 use Rattle.tab_keys.specs.TableNames.{folded}
@@ -54,6 +54,7 @@ pub record IsNextTick (floors : Floors) (next : ℕ) : Type 0 where
 -- what every world keeps
 pub record IsWorld (world : World) : Type 0 where
   pub names_rise : AllPairs (λ a b. IsTrue (is_lt (name_cmp a.spelling b.spelling))) world.names
+  pub numbers_differ : AllPairs (λ a b. IsFalse (a.table == b.table)) world.names
   pub names_below : All (λ named. named.table < world.next_table) world.names
   pub rows_rise : AreRising world.rows
   pub rows_below : All (λ row. row.key.table < world.next_table) world.rows

@@ -35,10 +35,7 @@ has_its_length (header ∷ headers) body =
     if is_named (codes "content-length") header then not (list_any (is_named (codes "content-length")) headers) && bytes_eq header.value (decimal (length body))
     else has_its_length headers body
 
--- and those that a change of one row may have
-abbrev pub is_condition : Header → Bool
-is_condition header = is_wish header || is_named (codes "if-match") header
-
+-- and those that a write of one row may have
 abbrev pub is_write_header : Header → Bool
 is_write_header header = is_insert_header header || is_named (codes "if-match") header
 
@@ -58,9 +55,10 @@ is_plain_insert headers body = list_all is_insert_header headers && has_its_leng
 unfoldable pub is_plain_write : List Header → List ℕ → Bool
 is_plain_write headers body = list_all is_write_header headers && has_its_length headers body && nat_le (length body) longest_body
 
--- nothing but wishes and conditions, and no body
+-- wishes and conditions, no body, and its length, if one is given
 unfoldable pub is_plain_delete : List Header → List ℕ → Bool
-is_plain_delete headers body = list_all is_condition headers && (length body == 0)
+is_plain_delete headers body =
+    list_all is_write_header headers && (length body == 0) && (not (list_any (is_named (codes "content-length")) headers) || has_its_length headers body)
 
 -- ---- messages
 

@@ -1,7 +1,7 @@
 ghost use Rattle.std.specs.Prelude.{◌≡◌, length, codes, decimal, bytes_eq};
 ghost use Rattle.std.specs.List.{list_all, list_any};
 ghost use Rattle.tab_http.specs.Headers.{is_named};
-ghost use Rattle.tab_service.specs.Decisions.{is_wish, is_insert_header, is_condition, is_write_header, has_its_length, is_plain_read, is_plain_insert, is_plain_write, is_plain_delete};
+ghost use Rattle.tab_service.specs.Decisions.{is_wish, is_insert_header, is_write_header, has_its_length, is_plain_read, is_plain_insert, is_plain_write, is_plain_delete};
 
 use itoa::Buffer;
 use tab_http::Header;
@@ -33,12 +33,14 @@ pub(crate) fn is_plain_write(headers: &[Header], body: &[u8]) -> bool
     are_write_headers(headers) && has_its_length(headers, body) && body.len() <= LONGEST_BODY
 }
 
-/// Whether a delete has nothing but wishes and conditions, and no body.
+/// Whether a delete has nothing but wishes, conditions and the length of no body.
 #[tactic(auto, unfolding(crate::specs::Decisions::is_plain_delete))]
 pub(crate) fn is_plain_delete(headers: &[Header], body: &[u8]) -> bool
     ensures { result ≡ is_plain_delete headers.now body.now }
 {
-    are_conditions(headers) && body.is_empty()
+    are_write_headers(headers)
+        && body.is_empty()
+        && (!has_length(headers) || has_its_length(headers, body))
 }
 
 fn are_wishes(headers: &[Header]) -> bool
@@ -59,22 +61,10 @@ fn are_write_headers(headers: &[Header]) -> bool
     headers.iter().all(|header| is_write_header(header))
 }
 
-fn are_conditions(headers: &[Header]) -> bool
-    ensures { result ≡ list_all is_condition headers.now }
-{
-    headers.iter().all(|header| is_condition(header))
-}
-
 fn is_write_header(header: &Header) -> bool
     ensures { result ≡ is_write_header header.now }
 {
     is_insert_header(header) || header.is_named("if-match")
-}
-
-fn is_condition(header: &Header) -> bool
-    ensures { result ≡ is_condition header.now }
-{
-    is_wish(header) || header.is_named("if-match")
 }
 
 fn is_insert_header(header: &Header) -> bool

@@ -33,4 +33,4 @@ pub returns-in-Err-OutOfForm-clause-stopped : goal.returns-in-Err-OutOfForm-clau
 returns-in-Err-OutOfForm-clause-stopped g c walk keeps =
     let read = rw c.in-Ok-Event.field-0-is at c.in-Ok-Event.ensures.read in
     stopped_form c.args.account.now walk _ c.in-Ok-Event.event c.args.session.now c.step.new.self read.0
-    (c.in-Err-OutOfForm.ensures.refused walk keeps (ap Err c.in-Err-OutOfForm.field-0-is)) read.1 refl c.in-Err-OutOfForm.ensures.err
+    (c.in-Err-OutOfForm.ensures.refused walk keeps (ap Err c.in-Err-OutOfForm.field-0-is)) read.1 refl c.in-Err-OutOfForm.ensures.err.history
