@@ -179,7 +179,12 @@ const REQUESTS_ARE_REFUSED_IN_ORDER: [Exchange; 13] = [
     ),
 ];
 
-pub fn converse(rt: &impl Abort, alloc: Global, now: &str, exchanges: &[Exchange]) -> Result<(), Fail> {
+pub fn converse(
+    rt: &impl Abort,
+    alloc: Global,
+    now: &str,
+    exchanges: &[Exchange],
+) -> Result<(), Fail> {
     let mut script = Script {
         input: joined(alloc, &[now, "\n"])?,
         output: joined(alloc, &["ok\n"])?,

@@ -16,6 +16,7 @@ fn place(alloc: Global, pk: &str, rk: &str) -> Option<(KeyText, KeyText)> {
 fn queries_and_pages_are_copied(rt: HostRuntime) -> Result<(), Fail> {
     let alloc = rt.alloc();
     let options = Options {
+        filter: None,
         select: Select::Names(Names::new(vec![in alloc; String::from_str(alloc, "Name")?]?)),
         top: 7,
         start: place(alloc, "p", "r"),

@@ -151,7 +151,9 @@ fn schedule(alloc: Global, rows: usize, queries: &[&str]) -> Result<String, Allo
         write!(&mut input, "call {}\n{message}\n", message.len())?;
     }
     for query in queries {
-        let message = format!(in alloc; "GET /shop/Goods(){query} HTTP/1.1\r\nAccept: odata=nometadata\r\n\r\n")?;
+        let message = format!(in alloc;
+            "GET /shop/Goods(){query} HTTP/1.1\r\nAccept: odata=nometadata\r\n\r\n"
+        )?;
         write!(&mut input, "call {}\n{message}\n", message.len())?;
     }
     input.push_str("end\n")?;
@@ -193,8 +195,16 @@ fn holds(
     let bytes = pages(alloc, rows, queries)?;
     let text = str::from_utf8(bytes.as_slice()).unwrap_or("");
     assert_eq!(rt; text.matches("Timestamp").count(), held, "{queries:?}");
-    assert_eq!(rt; text.matches("NextRowKey").count(), continued, "{queries:?}");
-    assert_eq!(rt; text.matches(" 200 OK").count(), queries.len(), "{queries:?}");
+    assert_eq!(rt;
+        text.matches("NextRowKey").count(),
+        continued,
+        "{queries:?}"
+    );
+    assert_eq!(rt;
+        text.matches(" 200 OK").count(),
+        queries.len(),
+        "{queries:?}"
+    );
     Ok(())
 }
 

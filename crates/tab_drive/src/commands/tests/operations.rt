@@ -320,7 +320,12 @@ fn operations_go_as_written(rt: HostRuntime) -> Result<(), Fail> {
     let alloc = rt.alloc();
     converse(&rt, alloc, "now 0", &AN_ETAG_NEVER_COMES_AGAIN)?;
     converse(&rt, alloc, "now 0", &A_MERGE_KEEPS_WHAT_IS_NOT_GIVEN)?;
-    converse(&rt, alloc, "now 2650467743999999999", &NO_CHANGE_COMES_AFTER_THE_LAST_MOMENT)?;
+    converse(
+        &rt,
+        alloc,
+        "now 2650467743999999999",
+        &NO_CHANGE_COMES_AFTER_THE_LAST_MOMENT,
+    )?;
     converse(&rt, alloc, "now 7", &EACH_OPERATION_ON_EACH_CONDITION)?;
     converse(&rt, alloc, "now 0", &WRITES_ARE_REFUSED_IN_ORDER)?;
     Ok(())

@@ -198,7 +198,7 @@ const TOKENS_GO_ON_WHERE_A_PAGE_ENDED: [Exchange; 21] = [
         "HTTP/1.1 400 Bad Request\r\nContent-Length: 113\r\nContent-Type: application/json\r\nx-ms-version: 2019-02-02\r\n\r\n{\"odata.error\":{\"code\":\"InvalidInput\",\"message\":{\"lang\":\"en-US\",\"value\":\"A continuation token cannot be read.\"}}}",
     ),
     (
-        "GET /shop/Goods()?NextPartitionKey=1.cDA HTTP/1.1\r\n\r\n",
+        "GET /shop/Goods()?NextPartitionKey=1.cDB HTTP/1.1\r\n\r\n",
         "HTTP/1.1 400 Bad Request\r\nContent-Length: 113\r\nContent-Type: application/json\r\nx-ms-version: 2019-02-02\r\n\r\n{\"odata.error\":{\"code\":\"InvalidInput\",\"message\":{\"lang\":\"en-US\",\"value\":\"A continuation token cannot be read.\"}}}",
     ),
     (
