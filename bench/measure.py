@@ -7,7 +7,6 @@ Wants: crates/tab_cli/out/tab_cli (by `rt run` in crates/tab_cli), gcc and SQLit
 """
 import base64
 import os
-import resource
 import subprocess
 import sys
 import tempfile
@@ -61,27 +60,43 @@ def write(method, i, tick):
     return call((head + body).encode())
 
 
+def resident(events):
+    """The resident bytes of a run that has answered these events and waits for the next."""
+    with tempfile.TemporaryFile() as replies:
+        child = subprocess.Popen([PROGRAM, *WORDS], stdin=subprocess.PIPE, stdout=replies)
+        child.stdin.write(b"now 0\n" + b"".join(events))
+        child.stdin.flush()
+        size = -1
+        while size != os.fstat(replies.fileno()).st_size or size <= 0:
+            size = os.fstat(replies.fileno()).st_size
+            time.sleep(0.3)
+        with open("/proc/%d/status" % child.pid) as status:
+            kilobytes = next(int(line.split()[1]) for line in status if line.startswith("VmRSS:"))
+        child.stdin.write(b"end\n")
+        child.stdin.close()
+        child.wait()
+        return kilobytes * 1024
+
+
 def run(events, wanted):
-    """The seconds and the greatest resident bytes of a run over these events; its replies must have these statuses."""
+    """The seconds of a run over these events, so many of which must be answered with success."""
     with tempfile.TemporaryFile() as schedule, tempfile.TemporaryFile() as replies:
         schedule.write(b"now 0\n" + b"".join(events) + b"end\n")
         schedule.seek(0)
         start = time.perf_counter()
-        child = subprocess.Popen([PROGRAM, *WORDS], stdin=schedule, stdout=replies)
-        _, status, usage = os.wait4(child.pid, 0)
+        status = subprocess.call([PROGRAM, *WORDS], stdin=schedule, stdout=replies)
         seconds = time.perf_counter() - start
-        child.returncode = os.waitstatus_to_exitcode(status)
         replies.seek(0)
         text = replies.read()
         counts = {code: text.count(b"HTTP/1.1 %d " % code) for code in (200, 201, 204)}
         good = counts[200] + counts[201] + counts[204]
-        if child.returncode != 0 or good != wanted:
-            sys.exit("measure: status %d, %d good replies where %d were due" % (child.returncode, good, wanted))
-        return seconds, usage.ru_maxrss * 1024
+        if status != 0 or good != wanted:
+            sys.exit("measure: status %d, %d good replies where %d were due" % (status, good, wanted))
+        return seconds
 
 
 def best(events, wanted, times=3):
-    return min(run(events, wanted)[0] for _ in range(times))
+    return min(run(events, wanted) for _ in range(times))
 
 
 def peer(program, work, rows, rounds):
@@ -130,10 +145,9 @@ def main():
                 costs.append(seconds / n)
             print("  %-10s %s" % (name, "  ".join("%.2f" % (b / a) for a, b in zip(costs, costs[1:]))))
 
-        _, small = run([], 0)
-        _, large = run(base, rows)
-        data = sum(len(k) for i in (0,) for k in keys(i)) + 4 + len("Saw")
-        print("memory: %d bytes a row, of which %d are its keys and values (the history of the run has them twice)" % ((large - small) / rows, data))
+        data = sum(len(key) for key in keys(0)) + 4 + len("Saw")
+        bytes_a_row = (resident(base) - resident([])) / rows
+        print("memory: %d bytes a row beyond the %d of its keys and values; the history of the run has each row again" % (bytes_a_row - data, data))
 
 
 if __name__ == "__main__":
