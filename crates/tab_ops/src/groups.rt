@@ -1,8 +1,8 @@
-ghost use Rattle.std.specs.Prelude.{◌≡◌, [], ◌∷◌, None, IfOk, IfNone, All, IsFalse, bytes_eq};
+ghost use Rattle.std.specs.Prelude.{◌≡◌, [], ◌∷◌, IfOk, IfNone, All, IsFalse, bytes_eq};
 ghost use Rattle.std.specs.List.{list_any};
 ghost use Rattle.std.specs.Ordering.{is_eq};
 ghost use Rattle.tab_keys.specs.Order.{text_cmp};
-ghost use Rattle.tab_ops.specs.Groups.{AreApart, grouped, group_refusal, first_elsewhere, first_doubled};
+ghost use Rattle.tab_ops.specs.Groups.{AreApart, IsGroup, grouped, group_refusal, first_elsewhere, first_doubled};
 
 use crate::Item;
 use std::alloc::{AllocError, AllocFailed, Global};
@@ -116,8 +116,7 @@ impl Group {
     /// The operations, in the order in which they act.
     pub fn items(&self) -> &[Item]
         ensures items { result.now ≡ self.now }
-        ensures allowed { group_refusal self.now ≡ None }
-        ensures apart { AreApart self.now }
+        ensures group { IsGroup self.now }
     {
         self.items.as_slice()
     }

@@ -1,5 +1,6 @@
 ghost use Rattle.std.specs.Prelude.{◌≡◌, ◌≢◌, ◌≤◌, length, map, All, Ok, Err, MatchResult, IfOk, IfErr};
 ghost use Rattle.tab_edm.specs.declared.TheConstants.{GREATEST};
+ghost use Rattle.tab_ops.specs.Groups.{IsGroup};
 ghost use Rattle.tab_ops.specs.Changes.{group_outcome, group_keys, applied, change_of, change_key, HasTick, IsTimely};
 
 use crate::outcomes::outcome_of;
@@ -106,6 +107,7 @@ pub fn plan(
     ensures each { IfOk result (λ changes. length changes.list ≡ length group.now) }
     ensures keys { IfOk result (λ changes. map change_key changes.list ≡ group_keys table group.now) }
     ensures put { IfOk result (λ changes. All (HasTick tick) changes.list) }
+    ensures group { IsGroup group.now }
 {
     let items = group.items();
     let mut changes = Vec::with_capacity(alloc, items.len())?;

@@ -1,5 +1,5 @@
 -- The pairs of a query, gone through one by one, give the value of each option.
-use Rattle.std.proofs.Common.{◌≡◌, ℕ, List, [], ◌∷◌, Bool, true, false, cond, Option, Some, None, Result, Ok, Err, bytes_eq, codes, refl, sym, ap, ◌∙◌}
+use Rattle.std.proofs.Common.{◌≡◌, ℕ, List, [], ◌∷◌, Bool, true, false, cond, Option, None, Result, Ok, Err, bytes_eq, codes, refl, ap, ◌∙◌}
 use Rattle.form_urlencoded.specs.Form.{raw_pairs}
 use Rattle.tab_page.specs.declared.queries.OptionRefused.{OptionRefused}
 use Rattle.tab_page.specs.declared.queries.OptionRefused.TheVariants.{BadOption}

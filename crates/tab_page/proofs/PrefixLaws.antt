@@ -1,5 +1,5 @@
 -- The prefix of a page is the shortest one that is full.
-use Rattle.std.proofs.Common.{◌≡◌, ℕ, zero, suc, ◌+◌, ◌-◌, ◌<◌, ◌≤◌, ◌⊎◌, inl, inr, List, [], ◌∷◌, length, take, filter, Bool, true, false, cond, ◌||◌, ◌==◌, refl, sym, ap, ◌∙◌, subst, arith}
+use Rattle.std.proofs.Common.{◌≡◌, ℕ, zero, suc, ◌+◌, ◌-◌, ◌<◌, ◌⊎◌, inl, inr, List, [], ◌∷◌, length, take, filter, Bool, true, false, cond, ◌||◌, ◌==◌, refl, arith}
 use Rattle.std.proofs.lemmas.Bool.{or_cases, or_parts, eqb-true, eqb-false}
 use Rattle.tab_page.specs.Pages.{prefix_length}
 use Rattle.tab_page.specs.Prefixes.{IsFull, IsPrefixLength}

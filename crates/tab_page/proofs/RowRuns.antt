@@ -1,17 +1,16 @@
 -- The rows that a page goes through: among them are all that it lists, and these stand in one run.
-use Rattle.std.proofs.Common.{◌≡◌, ℕ, zero, suc, ◌+◌, ◌<◌, ◌≤◌, List, [], ◌∷◌, length, take, drop, filter, get_or, Bool, true, false, cond, not, ◌&&◌, ◌==◌, Option, Some, None, refl, sym, ap, ◌∙◌, subst, arith, nat_cmp}
-use Rattle.std.specs.Prelude.{All, AllPairs, IsTrue, slice_get, unwrap_or}
+use Rattle.std.proofs.Common.{◌≡◌, ℕ, ◌+◌, ◌≤◌, List, [], ◌∷◌, take, drop, filter, get_or, Bool, true, false, cond, not, ◌&&◌, ◌==◌, Option, refl, sym, ap, ◌∙◌, subst, arith, nat_cmp}
+use Rattle.std.specs.Prelude.{All, IsTrue, slice_get, unwrap_or}
 use Rattle.std.specs.Option.{option_to_list}
 use Rattle.std.specs.declared.cmp.Ordering.{Ordering}
 use Rattle.std.specs.declared.cmp.Ordering.TheVariants.{Less, Equal, Greater}
 use Rattle.std.specs.Ordering.{ordering_then, is_lt}
 use Rattle.std.specs.Cmp.{nat_cmp_is}
-use Rattle.std.proofs.lemmas.Bool.{and_parts, and_from, and_right, eqb-true, eq-eqb, true≢false, not_from_false, not-true}
+use Rattle.std.proofs.lemmas.Bool.{and_parts, and_from, and_right, eqb-true, eq-eqb, true≢false, not-true}
 use Rattle.std.proofs.lemmas.Bool.Decides.{nat_tests}
-use Rattle.std.proofs.lemmas.List.Elements.{All-nil, All-cons, All-head, All-tail, All-weaker, filter_passes}
+use Rattle.std.proofs.lemmas.List.Elements.{All-head, All-tail, All-weaker, filter_passes}
 use Rattle.tab_keys.specs.declared.keys.Key.{Key}
 use Rattle.tab_keys.specs.declared.bounds.Bound.{Bound}
-use Rattle.tab_keys.specs.declared.bounds.Bound.TheVariants.{At, End}
 use Rattle.tab_keys.specs.Order.{text_cmp, key_cmp, key_lt, is_before}
 use Rattle.tab_keys.specs.Spans.{Interval, has as in_span}
 use Rattle.tab_keys.specs.TotalOrders.{text_cmp_total}
@@ -21,7 +20,7 @@ use Rattle.tab_rows.proofs.RowLaws.{AreRising-rows_from, AreRising-rows_past, is
 use Rattle.tab_filter.specs.Windows.{WindowView, has, below, lower_corner}
 use Rattle.tab_page.specs.declared.pages.Options.{Options}
 use Rattle.tab_page.specs.declared.pages.Page.{Page}
-use Rattle.tab_page.specs.Pages.{window, window_for, matches, key_at, later_key, corner, start_key, is_listed, listed, looked_at, prefix_length, most_looked_at, next_of, page_up_to, page_below}
+use Rattle.tab_page.specs.Pages.{window, matches, key_at, later_key, corner, start_key, is_listed, listed, looked_at, prefix_length, most_looked_at, next_of, page_up_to, page_below}
 use Rattle.tab_page.specs.Walks.{is_within, rows_at, InOneRun, AreInOneRun}
 use Rattle.tab_page.proofs.WindowRuns.{IsRun, window_runs, no_gap, not_small_above, above_small, above_corner}
 
@@ -108,9 +107,10 @@ module _ (start : Key) (all : WindowView) (run : IsRun all) (begins : IsStart st
   past_above row past = (is_past-is start.table start.pk row.key).0 past start.rk
 
   past_reached : (row : RowView) → is_past start.table start.pk row.key ≡ true → Reached row
-  past_reached row past =
-      (key_lt_asymmetric start row.key (past_above row past),
-      λ table. above_corner all.partitions row.key.pk (lt_from_le text_cmp_total (lower_corner all.partitions) start.pk row.key.pk (lt_first (text_cmp start.pk (lower_corner all.partitions)) (text_cmp start.rk (lower_corner all.rows)) begins.low) (past_partition row past table)))
+  past_reached row past = (
+    key_lt_asymmetric start row.key (past_above row past),
+    λ table. above_corner all.partitions row.key.pk (lt_from_le text_cmp_total (lower_corner all.partitions) start.pk row.key.pk (lt_first (text_cmp start.pk (lower_corner all.partitions)) (text_cmp start.rk (lower_corner all.rows)) begins.low) (past_partition row past table)),
+  )
 
   pub rows_in_one_run : (rows : List RowView) → AreRising rows → AreInOneRun start all (rows_at rows start all)
   unfolding rows_at rows_from rows_past

@@ -1,8 +1,8 @@
 -- Names between commas, without the spaces round them.
-use Rattle.std.proofs.Common.{◌≡◌, ◌≢◌, ℕ, suc, ◌+◌, ◌<◌, List, [], ◌∷◌, ◌++◌, map, filter, take, length, reverse, get_or, Bool, true, false, not, ◌||◌, ◌==◌, cond, refl, sym, ap, ◌∙◌, subst}
+use Rattle.std.proofs.Common.{◌≡◌, ◌≢◌, ℕ, ◌+◌, ◌<◌, List, [], ◌∷◌, ◌++◌, map, filter, take, length, reverse, get_or, Bool, true, false, ◌||◌, ◌==◌, cond, refl, sym, ap, ◌∙◌}
 use Rattle.std.specs.List.{list_any}
 use Rattle.std.proofs.lemmas.Bool.{eqb-true}
-use Rattle.std.proofs.lemmas.List.{reverse-reverse, reverse-append, map_more, append-nil, length-map}
+use Rattle.std.proofs.lemmas.List.{reverse-reverse, reverse-append, map_more, length-map}
 use Rattle.std.proofs.Math.Seq.{take-length}
 use Rattle.std.proofs.lemmas.List.Elements.{filter-append}
 use Rattle.tab_page.specs.Queries.{without_spaces, trimmed, is_name, is_star, asks_for_all}

@@ -1,5 +1,5 @@
 -- A walk through rows, of which some are listed: what was found among the first of those, and how many are left to look at.
-use Rattle.std.proofs.Common.{◌≡◌, ℕ, zero, suc, ◌+◌, ◌-◌, ◌<◌, ◌≤◌, ◌⊎◌, inl, inr, List, [], ◌∷◌, ◌++◌, length, take, drop, filter, Bool, true, false, cond, ◌||◌, ◌==◌, Option, Some, None, refl, sym, ap, ◌∙◌, subst, arith, lit≤, add-one, length-append}
+use Rattle.std.proofs.Common.{◌≡◌, ℕ, zero, suc, ◌+◌, ◌-◌, ◌<◌, ◌≤◌, ◌⊎◌, inl, inr, List, [], ◌∷◌, ◌++◌, length, take, drop, filter, Bool, true, false, cond, ◌||◌, ◌==◌, Option, Some, None, refl, sym, ap, ◌∙◌, subst, arith, add-one, length-append}
 use Rattle.std.specs.Prelude.{All, AllPairs, slice_get}
 use Rattle.std.proofs.lemmas.Bool.{eq-eqb, ne_eqb, true≢false}
 use Rattle.std.proofs.lemmas.List.Elements.{All-head, All-tail, All-weaker, filter-append}
@@ -42,7 +42,7 @@ module _ {X : Type 0} (listed m : X → Bool) (top most : ℕ) where
   }
     where
       first : (xs : List X) → prefix_length m top most xs ≡ 0 + prefix_length m (top - 0) (most - 0) xs
-      first xs = rw (zero-add, sub-zero, sub-zero) refl
+      first xs = simp (zero-add, sub-zero)
 
   -- a row that is not listed is passed by
   pub passed : (all rest found : List X) (looked : ℕ) (x : X) → listed x ≡ false → Walk all (x ∷ rest) found looked → Walk all rest found looked
@@ -193,3 +193,7 @@ module _ (start : Key) (all : WindowView) where
       by_case : (now ≡ before) ⊎ (Above rows × (now ≤ before + looked + 1)) → now ≤ before + looked + 1
       by_case (inl h) = omega arith
       by_case (inr h) = h.1
+
+-- a comparison with a row's key, as the row is seen
+pub compared : (start : Key) (inside row : RowView) (lt t : Bool) → inside ≡ row → lt ≡ key_lt start inside.key → lt ≡ t → key_lt start row.key ≡ t
+compared start inside row lt t e f g = ap (λ (r : RowView). key_lt start r.key) (sym e) ∙ (sym f ∙ g)

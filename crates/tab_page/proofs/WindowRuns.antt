@@ -1,6 +1,6 @@
 -- The windows of filters have no gaps: what lies above where a page begins, and not above a key of the window, is in it.
 use Rattle.std.proofs.Common.{◌≡◌, ℕ, List, [], ◌∷◌, ◌++◌, Bool, true, false, cond, not, ◌&&◌, ◌||◌, Option, Some, None, refl, ap, sym, ◌∙◌}
-use Rattle.std.proofs.lemmas.Bool.{and_parts, and_from, true≢false, or_parts, or_cases}
+use Rattle.std.proofs.lemmas.Bool.{and_parts, and_from, true≢false, or_parts}
 use Rattle.std.specs.declared.cmp.Ordering.{Ordering}
 use Rattle.std.specs.declared.cmp.Ordering.TheVariants.{Less, Equal, Greater}
 use Rattle.std.specs.Ordering.{ordering_then, ordering_reverse, is_eq, is_lt, is_gt, is_le, is_ge}
@@ -8,7 +8,7 @@ use Rattle.tab_keys.specs.KeyTexts.{key_refusal}
 use Rattle.tab_keys.specs.declared.key_texts.KeyRefused.{KeyRefused}
 use Rattle.tab_keys.specs.Order.{text_cmp}
 use Rattle.tab_keys.specs.TotalOrders.{text_cmp_total}
-use Rattle.tab_keys.proofs.OrderLaws.{text_cmp-nil, Equal_from_is_eq, lt_irreflexive, lt_asymmetric, lt_alike_right, lt_from_le, lt_to_le, eq_between}
+use Rattle.tab_keys.proofs.OrderLaws.{Equal_from_is_eq, lt_irreflexive, lt_asymmetric, lt_alike_right, lt_from_le, lt_to_le, eq_between}
 use Rattle.tab_edm.specs.declared.values.Value.{Value}
 use Rattle.tab_edm.specs.declared.values.Value.TheVariants.{Text, Flag, Int32, Int64, Moment, Guid, Bytes}
 use Rattle.tab_filter.specs.declared.trees.Operator.{Operator}
@@ -19,7 +19,7 @@ use Rattle.tab_filter.specs.declared.window.Part.{Part}
 use Rattle.tab_filter.specs.declared.window.Part.TheVariants.{Partition, Row}
 use Rattle.tab_filter.specs.Trees.{Tree, Compared, Negation, Both, Either}
 use Rattle.tab_filter.specs.Truth.{operator_holds}
-use Rattle.tab_filter.specs.Windows.{WindowView, window_of, has, below, reaches, all_meet, meets, any_fixes, any_fixes_at, any_too_great, any_too_small, is_too_small, small_by, great_by, is_lower, is_equal, is_not_equal, is_of_part, lower_corner, greater_corner, narrowings, narrowing_of, narrowing_by, unless_refused}
+use Rattle.tab_filter.specs.Windows.{WindowView, has, below, all_meet, meets, any_fixes, any_fixes_at, any_too_great, any_too_small, is_too_small, small_by, great_by, is_lower, is_equal, is_not_equal, is_of_part, lower_corner, greater_corner, narrowings, narrowing_of, narrowing_by, unless_refused}
 use Rattle.tab_filter.proofs.WindowEdges.{starts_low, reaches_up_to}
 use Rattle.tab_page.specs.Pages.{window_for}
 

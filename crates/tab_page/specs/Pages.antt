@@ -1,5 +1,5 @@
 -- The page rule, over the rows of a world.
-use Rattle.std.specs.Prelude.{◌≡◌, ℕ, zero, suc, ◌-◌, List, [], ◌∷◌, length, Bool, true, false, not, ◌&&◌, ◌||◌, ◌==◌, filter, take, drop, Option, Some, None, unwrap_or, if◌then◌else◌}
+use Rattle.std.specs.Prelude.{ℕ, suc, ◌-◌, List, [], ◌∷◌, Bool, true, not, ◌&&◌, ◌||◌, ◌==◌, filter, take, drop, Option, Some, None, unwrap_or, if◌then◌else◌}
 use Rattle.tab_keys.specs.Order.{key_lt, is_before, bound_lt}
 use Rattle.tab_keys.specs.declared.keys.Key.{Key}
 use Rattle.tab_keys.specs.declared.bounds.Bound.{Bound}

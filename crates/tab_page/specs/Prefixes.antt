@@ -1,5 +1,5 @@
 -- How many rows a page looks at, in the words of its rule.
-use Rattle.std.specs.Prelude.{◌≡◌, ◌⊎◌, ℕ, ◌<◌, ◌≤◌, List, length, take, filter, Bool}
+use Rattle.std.specs.Prelude.{◌⊎◌, ℕ, ◌<◌, ◌≤◌, List, length, take, filter, Bool}
 use Rattle.tab_rows.specs.Rows.{RowView}
 use Rattle.tab_page.specs.Pages.{prefix_length}
 

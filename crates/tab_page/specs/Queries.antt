@@ -1,5 +1,6 @@
 -- The options in the query of an address.
-use Rattle.std.specs.Prelude.{ℕ, ◌+◌, ◌-◌, ◌*◌, List, [], ◌∷◌, map, filter, length, reverse, Bool, not, ◌&&◌, ◌||◌, ◌==◌, nat_le, if◌then◌else◌, Option, Some, None, Result, Ok, Err, bytes_eq, codes}
+use Rattle.std.specs.Prelude.{◌≡◌, ◌≤◌, ◌↔◌, ℕ, ◌+◌, ◌-◌, ◌*◌, List, [], ◌∷◌, map, filter, length, reverse, Bool, not, ◌&&◌, ◌||◌, ◌==◌, nat_le, if◌then◌else◌, Option, Some, None, Result, Ok, Err, bytes_eq, codes}
+use Rattle.std.specs.Fmt.{decimal}
 use Rattle.std.specs.List.{list_any, slice_split}
 use Rattle.std.specs.Option.{ok_or, option_and_then}
 use Rattle.std.specs.Str.{chars}
@@ -11,13 +12,12 @@ use Rattle.tab_filter.specs.Parts.{filter_at}
 use Rattle.tab_filter.specs.Places.{refusal_of}
 use Rattle.tab_page.specs.declared.pages.Options.{Options}
 use Rattle.tab_page.specs.declared.queries.OptionRefused.{OptionRefused}
-use Rattle.tab_page.specs.declared.queries.OptionRefused.TheVariants.{BadOption, BadTop, BadToken, Filter, Memory}
+use Rattle.tab_page.specs.declared.queries.OptionRefused.TheVariants.{BadOption, BadTop, BadToken, Filter}
 use Rattle.tab_page.specs.declared.selects.Select.{Select}
 use Rattle.tab_page.specs.declared.selects.Select.TheVariants.{All, Names}
 use Rattle.tab_page.specs.Tokens.{read_token}
 
 infixl 20 ◌>>=◌
-
 -- what is left to do, unless there was a refusal
 abbrev pub ◌>>=◌ : {A B : Type 0} → Result A OptionRefused → (A → Result B OptionRefused) → Result B OptionRefused
 Ok x >>= f = f x
@@ -62,6 +62,10 @@ with_digits n (b ∷ bs) = option_and_then (λ m. with_digits m bs) (with_digit 
 abbrev pub read_top : List ℕ → Option ℕ
 read_top [] = None
 read_top (b ∷ bs) = if b == 48 then None else with_digits 0 (b ∷ bs)
+
+-- so a text is read as a number exactly where it is its decimal text
+abbrev pub ReadsDecimals : Type 0
+ReadsDecimals = (text : List ℕ) (n : ℕ) → (read_top text ≡ Some n) ↔ ((1 ≤ n) × (n ≤ 1000) × (text ≡ decimal n))
 
 -- 1,000 where it is not said
 abbrev pub top_of : Option (List ℕ) → Result ℕ OptionRefused

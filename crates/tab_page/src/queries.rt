@@ -1,6 +1,6 @@
 ghost use Rattle.std.specs.Prelude.{◌≡◌, ◌≢◌, ◌≤◌, Ok, Err, IfOk, IfSome, MatchResult};
 ghost use Rattle.std.specs.Cow.{cow_str_bytes};
-ghost use Rattle.tab_page.specs.Queries.{read_options, read_select, decoded, read_top, with_digit, with_digits, top_of, token_of, row_of, start_of, filter_of, select_of, options_of};
+ghost use Rattle.tab_page.specs.Queries.{read_options, read_select, decoded, read_top, with_digit, with_digits, top_of, token_of, row_of, start_of, filter_of, select_of, options_of, ReadsDecimals};
 ghost use Rattle.tab_page.specs.Known.{text_of};
 
 use crate::known::known_options;
@@ -75,10 +75,10 @@ fn options_of(
 ) -> Result<Options, OptionRefused>
     ensures { MatchResult result
         (λ options. options_of (text_of filter.entry) (text_of select.entry) (text_of top.entry) (text_of partition.entry) (text_of row.entry)
-            ≡ Ok options)
+        ≡ Ok options)
         (λ why. why ≢ OptionRefused.Memory
-            → options_of (text_of filter.entry) (text_of select.entry) (text_of top.entry) (text_of partition.entry) (text_of row.entry)
-            ≡ Err why) }
+        → options_of (text_of filter.entry) (text_of select.entry) (text_of top.entry) (text_of partition.entry) (text_of row.entry)
+        ≡ Err why) }
 {
     let top = top_of(alloc, top)?;
     let start = start_of(alloc, partition, row)?;
@@ -216,3 +216,8 @@ fn select_of(alloc: Global, select: Option<&[u8]>) -> Result<Select, OptionRefus
         Err(_) => Err(OptionRefused::Memory),
     }
 }
+
+/// `$top` is read exactly where it is the decimal text of a number from 1 to 1000.
+pub fn top_is_a_decimal()
+    ensures { ReadsDecimals }
+{}

@@ -1,10 +1,10 @@
-ghost use Rattle.std.specs.Prelude.{◌≡◌, ◌≤◌, ◌+◌, [], ◌∷◌, ◌++◌, filter, take, drop, slice_get, unwrap_or, All, IsTrue, IfOk, OnOk};
+ghost use Rattle.std.specs.Prelude.{◌≡◌, ◌≤◌, ◌+◌, [], ◌∷◌, ◌++◌, filter, slice_get, unwrap_or, All, IsTrue, IfOk, OnOk};
 ghost use Rattle.std.specs.Option.{option_copied, option_to_list};
 ghost use Rattle.tab_keys.specs.Spans.{has};
 ghost use Rattle.tab_rows.specs.Rows.{AreRising};
-ghost use Rattle.tab_page.specs.Pages.{start_key, page_below, looked_at, key_at, corner, later_key, window, matches, next_of, prefix_length, most_looked_at};
+ghost use Rattle.tab_page.specs.Pages.{start_key, page_below, looked_at, key_at, corner, later_key, window, matches, next_of};
 ghost use Rattle.tab_page.specs.Prefixes.{HasPrefixLength};
-ghost use Rattle.tab_page.specs.Walks.{is_within, rows_at, AreInOneRun};
+ghost use Rattle.tab_page.specs.Walks.{is_within, rows_at, rows_within, count_of, matches_of, rest_of, AreInOneRun};
 
 use crate::{Options, Page, PageRows};
 use std::alloc::Global;
@@ -130,14 +130,10 @@ fn walk<'a, L: Ledger>(
 ) -> Result<(Vec<Row>, Option<&'a Row>), Memory>
     requires { AreInOneRun start.now window.now cursor.old }
     ensures found { IfOk result (λ walked.
-        let rows = filter (is_within start.now.table window.now) cursor.old in
-        walked.0.items ≡ filter (matches options.now) (take (prefix_length (matches options.now) options.now.top most_looked_at rows) rows)) }
+        walked.0.items ≡ matches_of options.now (rows_within start.now window.now cursor.old)) }
     ensures rest { IfOk result (λ walked.
-        let rows = filter (is_within start.now.table window.now) cursor.old in
-        option_copied walked.1 ≡ slice_get (drop (prefix_length (matches options.now) options.now.top most_looked_at rows) rows) 0) }
-    ensures steps {
-        let rows = filter (is_within start.now.table window.now) cursor.old in
-        steps.new ≤ steps.old + prefix_length (matches options.now) options.now.top most_looked_at rows + 2 }
+        option_copied walked.1 ≡ slice_get (rest_of options.now (rows_within start.now window.now cursor.old)) 0) }
+    ensures steps { steps.new ≤ steps.old + count_of options.now (rows_within start.now window.now cursor.old) + 2 }
 {
     let top = usize::from(options.top);
     let mut found = Vec::new(alloc);

@@ -1,5 +1,5 @@
-use Rattle.std.proofs.Common.{◌≡◌, ap, sym, ◌∙◌}
-use Rattle.tab_page.specs.Known.{KnownView, with_pairs}
+use Rattle.std.proofs.Common.{ap, sym, ◌∙◌}
+use Rattle.tab_page.specs.Known.{with_pairs}
 use Rattle.tab_page.proofs.KnownLaws.{all_pairs}
 use Rattle.tab_page.proofs.known.known_options.Goals as goal
 

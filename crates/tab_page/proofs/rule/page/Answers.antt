@@ -2,7 +2,7 @@ use Rattle.std.proofs.Common.{◌≡◌, ◌≤◌, ◌+◌, ◌∙◌, filter}
 use Rattle.std.specs.Option.{option_copied}
 use Rattle.tab_page.specs.Pages.{listed, looked_at}
 use Rattle.tab_page.specs.Walks.{is_within}
-use Rattle.tab_page.proofs.RowRuns.{Opened, opened, all_listed, all_in_one_run, page_is, steps_are}
+use Rattle.tab_page.proofs.RowRuns.{opened, all_listed, all_in_one_run, page_is, steps_are}
 use Rattle.tab_page.proofs.rule.page.Goals as goal
 use Rattle.tab_page.proofs.rule.page.Goals.{After-walk}
 

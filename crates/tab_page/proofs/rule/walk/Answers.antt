@@ -1,12 +1,11 @@
-use Rattle.std.proofs.Common.{◌≡◌, ◌<◌, List, true, false, [], ◌∷◌, filter, length, subst, sym, ap, ◌∙◌, None, arith}
-use Rattle.std.specs.Ordering.{is_lt}
-use Rattle.tab_keys.specs.Order.{key_cmp, key_lt}
+use Rattle.std.proofs.Common.{◌≡◌, ◌<◌, List, true, false, ◌∷◌, filter, length, subst, sym, ap, ◌∙◌, None, arith}
+use Rattle.tab_keys.specs.Order.{key_lt}
 use Rattle.tab_keys.specs.declared.keys.Key.{Key}
 use Rattle.tab_rows.specs.Rows.{RowView}
 use Rattle.tab_filter.specs.Windows.{WindowView}
 use Rattle.tab_page.specs.Pages.{matches, most_looked_at}
 use Rattle.tab_page.specs.Walks.{is_within, AreInOneRun}
-use Rattle.tab_page.proofs.WalkLaws.{Walk, Ended, passed, looked_at_row, ended_last, run_ends, run_rest, Stepped, stepped_over, stepped_past}
+use Rattle.tab_page.proofs.WalkLaws.{Walk, Ended, passed, looked_at_row, ended_last, run_ends, run_rest, Stepped, stepped_over, stepped_past, compared}
 use Rattle.tab_page.proofs.rule.walk.Goals as goal
 use Rattle.tab_page.proofs.rule.walk.Goals.{Then-lt}
 
@@ -14,7 +13,7 @@ ended_at : (g : _) (c : Then-lt g) → Ended (is_within c.args.start.now.table c
 ended_at g c =
     let start : Key = c.args.start.now in
     let all : WindowView = c.args.window.now in
-    let above : key_lt start c.in-Some.row.now.key ≡ true = sym (ap (λ (row : RowView). is_lt (key_cmp start row.key)) c.row.view_is) ∙ (sym c.lt.ensures ∙ c.if-lt.true) in
+    let above : key_lt start c.in-Some.row.now.key ≡ true = compared start _ c.in-Some.row.now c.lt.result true c.row.view_is c.lt.ensures c.if-lt.true in
     ended_last (is_within start.table all) (matches c.args.options.now) c.args.options.now.top most_looked_at _ c.loop-row.cursor c.loop-row.found.items c.loop-row.looked
     (ap (filter (is_within start.table all)) c.in-Some.ensures.row
     ∙ run_ends start all c.in-Some.row.now c.next.new.self (subst (AreInOneRun start all) c.in-Some.ensures.row c.loop-row.invariant.run) above (sym c.is_within.ensures ∙ c.if-not-is_within.true))
@@ -31,13 +30,13 @@ loop-row-preserved-then-not-is_within g c =
     let start : Key = c.args.start.now in
     let all : WindowView = c.args.window.now in
     let run : AreInOneRun start all (c.in-Some.row.now ∷ c.next.new.self) = subst (AreInOneRun start all) c.in-Some.ensures.row c.loop-row.invariant.run in
-    let low : key_lt start c.in-Some.row.now.key ≡ false = sym (ap (λ (row : RowView). is_lt (key_cmp start row.key)) c.row.view_is) ∙ (sym c.lt.ensures ∙ c.if-lt.false) in
+    let low : key_lt start c.in-Some.row.now.key ≡ false = compared start _ c.in-Some.row.now c.lt.result false c.row.view_is c.lt.ensures c.if-lt.false in
     record {
       run = run_rest start all c.in-Some.row.now c.next.new.self run;
       walk = passed (is_within start.table all) (matches c.args.options.now) c.args.options.now.top most_looked_at _ c.next.new.self c.loop-row.found.items c.loop-row.looked c.in-Some.row.now (sym c.is_within.ensures ∙ c.if-not-is_within.true)
-      (subst (λ (rows : List RowView). Walk (is_within start.table all) (matches c.args.options.now) c.args.options.now.top most_looked_at (filter (is_within start.table all) c.args.cursor.now) rows c.loop-row.found.items c.loop-row.looked) c.in-Some.ensures.row c.loop-row.invariant.walk);
+          (subst (λ (rows : List RowView). Walk (is_within start.table all) (matches c.args.options.now) c.args.options.now.top most_looked_at (filter (is_within start.table all) c.args.cursor.now) rows c.loop-row.found.items c.loop-row.looked) c.in-Some.ensures.row c.loop-row.invariant.walk);
       steps = stepped_past start all c.in-Some.row.now c.next.new.self _ c.loop-row.steps c.next.new.steps c.loop-row.looked c.in-Some.ensures.counted low run
-      (subst (λ (rows : List RowView). Stepped start all rows c.args.steps.now c.loop-row.steps c.loop-row.looked) c.in-Some.ensures.row c.loop-row.invariant.steps);
+          (subst (λ (rows : List RowView). Stepped start all rows c.args.steps.now c.loop-row.steps c.loop-row.looked) c.in-Some.ensures.row c.loop-row.invariant.steps);
     }
 
 pub loop-row-preserved : goal.loop-row-preserved
@@ -53,5 +52,5 @@ loop-row-preserved g c =
       run = run_rest start all c.in-Some.row.now c.next.new.self run;
       walk = looked_at_row (is_within start.table all) (matches c.args.options.now) c.args.options.now.top most_looked_at _ c.next.new.self c.loop-row.found.items c.add_match.new.found.items c.loop-row.looked c.in-Some.row.now (sym c.is_within.ensures ∙ c.if-not-is_within.false) some room c.in_ok-add_match.ensures walk;
       steps = stepped_over start all c.in-Some.row.now c.next.new.self _ c.loop-row.steps c.next.new.steps c.loop-row.looked c.in-Some.ensures.counted run
-      (subst (λ (rows : List RowView). Stepped start all rows c.args.steps.now c.loop-row.steps c.loop-row.looked) c.in-Some.ensures.row c.loop-row.invariant.steps);
+          (subst (λ (rows : List RowView). Stepped start all rows c.args.steps.now c.loop-row.steps c.loop-row.looked) c.in-Some.ensures.row c.loop-row.invariant.steps);
     }

@@ -1,4 +1,4 @@
-use Rattle.std.proofs.Common.{◌≡◌, filter, length}
+use Rattle.std.proofs.Common.{filter, length}
 use Rattle.tab_page.specs.Pages.{matches, most_looked_at}
 use Rattle.tab_page.specs.Walks.{is_within, AreInOneRun}
 use Rattle.tab_page.proofs.WalkLaws.{Walk, Stepped}

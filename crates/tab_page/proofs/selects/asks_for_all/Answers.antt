@@ -1,4 +1,4 @@
-use Rattle.std.proofs.Common.{◌≡◌, sym, ◌∙◌, string_bytes}
+use Rattle.std.proofs.Common.{sym, ◌∙◌, string_bytes}
 use Rattle.tab_page.proofs.SelectLaws.{some_ask}
 use Rattle.tab_page.proofs.selects.asks_for_all.Goals as goal
 

@@ -1,4 +1,4 @@
-use Rattle.std.proofs.Common.{◌≡◌, sym, ◌∙◌}
+use Rattle.std.proofs.Common.{sym, ◌∙◌}
 use Rattle.std.proofs.Math.Utf8.{encode}
 use Rattle.tab_page.proofs.SelectLaws.{no_first_space}
 use Rattle.tab_page.proofs.selects.without_first_spaces.Goals as goal

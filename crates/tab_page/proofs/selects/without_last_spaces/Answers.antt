@@ -1,4 +1,4 @@
-use Rattle.std.proofs.Common.{◌≡◌, sym, ap, ◌∙◌, reverse}
+use Rattle.std.proofs.Common.{sym, ap, ◌∙◌, reverse}
 use Rattle.std.proofs.Math.Utf8.{encode}
 use Rattle.tab_page.proofs.SelectLaws.{no_last_space}
 use Rattle.tab_page.proofs.selects.without_last_spaces.Goals as goal

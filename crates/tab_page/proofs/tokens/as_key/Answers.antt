@@ -1,4 +1,4 @@
-use Rattle.std.proofs.Common.{◌≡◌, ap, sym, ◌∙◌, None, Some}
+use Rattle.std.proofs.Common.{ap, sym, ◌∙◌, Some}
 use Rattle.tab_keys.specs.KeyTexts.{key_refusal}
 use Rattle.tab_page.proofs.TokenLaws.{as_key-is, as_key-no_text}
 use Rattle.tab_page.proofs.tokens.as_key.Goals as goal

@@ -1,4 +1,4 @@
-use Rattle.std.proofs.Common.{◌≡◌, List, [], ◌∷◌, ◌||◌, Bool, map, refl, ap, ◌∙◌, sym, string_bytes, bytes_eq}
+use Rattle.std.proofs.Common.{ap, ◌∙◌, sym, string_bytes, bytes_eq}
 use Rattle.std.specs.List.{list_any}
 use Rattle.tab_page.proofs.SelectLaws.{list_any-map}
 use Rattle.tab_page.proofs.selects.Names.contains.Goals as goal
