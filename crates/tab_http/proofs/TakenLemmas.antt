@@ -1,5 +1,5 @@
 -- What reading a message took, from what its head and its body took.
-use Rattle.std.proofs.Common.{◌≡◌, ℕ, ◌+◌, ◌-◌, ◌<◌, ◌≤◌, ◌⊎◌, inl, inr, ⊎_elim, Bool, List, [], ◌∷◌, ◌++◌, length, take, drop, refl, sym, ap, ◌∙◌, subst, arith, append_assoc, length-append, take-append-drop}
+use Rattle.std.proofs.Common.{◌≡◌, ℕ, ◌+◌, ◌-◌, ◌<◌, ◌≤◌, ◌⊎◌, inl, inr, ⊎_elim, List, [], ◌∷◌, ◌++◌, length, take, drop, refl, sym, ap, ◌∙◌, subst, arith, append_assoc, length-append, take-append-drop}
 use Rattle.std.specs.Prelude.{Option, Some, None, Result, Ok, Err, IfOk, IfErr}
 use Rattle.std.specs.Io.KnownBytes.{Consumes, IsAtEnd}
 use Rattle.std.proofs.KnownBytes.{Consumes-trans}
@@ -7,8 +7,8 @@ use Rattle.std.proofs.lemmas.List.{append-nil, drop_at, length-take, take_at}
 use Rattle.httparse.specs.Grammar.{RequestHead}
 use Rattle.tab_http.proofs.MessageLemmas.{IsSizeRefusal, size_refused, begins_more, body_short, body_whole, spells_more}
 use Rattle.tab_http.proofs.ReadingLemmas.{never_later}
-use Rattle.tab_http.specs.Headers.{body_size, closes}
-use Rattle.tab_http.specs.Heads.{BeginsWithHead, HasNoHead, HasParts, headers_of}
+use Rattle.tab_http.specs.Headers.{body_size}
+use Rattle.tab_http.specs.Heads.{BeginsWithHead, HasNoHead, HasParts}
 use Rattle.tab_http.specs.Messages.{Answer, message_of, size_of_body, with_body, answer_of, RefusesHeadless, IsParsed, Spells, behind_head, without_head, IsOpen, in_body}
 use Rattle.tab_http.specs.Reading.{WereNeeded, last, TookMessage, StaysRefused, TookRefused, Refuses, AnswersAll, Gathered, WithoutHead, HeadRefused, TookBody, TookPart, BodyRefused}
 use Rattle.tab_http.specs.declared.heads.Head.{Head}
@@ -204,17 +204,6 @@ pub size_said : (h : RequestHead) (head : Head) (method : List ℕ) (headers : L
     → size ≡ body_size method headers → size_of_body h ≡ size
 size_said h head method headers size parts same_method same_headers is =
     sym (is ∙ ap (λ (m : List ℕ). body_size m headers) (same_method ∙ parts.method) ∙ ap (body_size h.method) (same_headers ∙ parts.headers))
-
--- the message of those parts
-pub message_said : (h : RequestHead) (head : Head) (headers : List Header) (body : List ℕ) (close : Bool) → HasParts h head → headers ≡ head.headers → close ≡ closes head.minor headers
-    → ◌≡◌ {A = Message} (record { method = head.method; target = head.target; headers = head.headers; body = body; close = close }) (message_of h body)
-message_said h head headers body close parts same closing = λ i. record {
-  method = parts.method i;
-  target = parts.target i;
-  headers = parts.headers i;
-  body = body;
-  close = (closing ∙ ap (closes head.minor) (same ∙ parts.headers) ∙ ap (λ (m : ℕ). closes m (headers_of h)) parts.minor) i;
-}
 
 -- a refused size is no fault of the source
 pub no_fault : (method : List ℕ) (headers : List Header) (refused : HttpRefused) → Err refused ≡ body_size method headers → refused ≡ ReadFault → ⊥

@@ -101,7 +101,15 @@ fn says_close(value: &[u8]) -> bool
 fn is_close(element: &[u8]) -> bool
     ensures { result ≡ is_close element.now }
 {
-    trim_end(trim_start(element)).eq_ignore_ascii_case(b"close")
+    trim_blanks(element).eq_ignore_ascii_case(b"close")
+}
+
+/// The bytes without the spaces and tabs at both ends.
+#[tactic(auto, unfolding(httparse::specs::Grammar::trim_ows))]
+pub fn trim_blanks(bytes: &[u8]) -> &[u8]
+    ensures { result.now ≡ trim_ows bytes.now }
+{
+    trim_end(trim_start(bytes))
 }
 
 fn trim_start(mut bytes: &[u8]) -> &[u8]

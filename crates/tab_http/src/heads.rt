@@ -1,9 +1,11 @@
 ghost use Rattle.std.specs.Prelude.{◌≡◌, ℕ, ◌<◌, ◌≤◌, List, length, map, All, IsUtf8, IfOk, MatchOption, MatchBool};
 ghost use Rattle.httparse.specs.Grammar.{RequestHead, ReadsRequest, MayBecomeRequest};
 ghost use Rattle.httparse.specs.Spans.{IsHeaderWithin, RequestOverflows, span_bytes};
-ghost use Rattle.tab_http.specs.Heads.{HasNoHead, IsHead, IsFrontHead, header_at};
+ghost use Rattle.tab_http.specs.Heads.{HasNoHead, HasParts, IsHead, IsFrontHead, header_at};
+ghost use Rattle.tab_http.specs.Messages.{message_of};
 
-use crate::messages::{Header, Headers};
+use crate::fields::closes;
+use crate::messages::{Header, Headers, Message};
 use crate::texts::{Bytes, Text};
 use httparse::Status;
 use httparse::spans::{EMPTY_HEADER_SPAN, HeaderSpan, parse_request};
@@ -12,7 +14,7 @@ use std::str;
 use tab_outside::Memory;
 
 /// The most bytes that a head may have.
-pub(crate) const LONGEST_HEAD: usize = 32_768;
+pub const LONGEST_HEAD: usize = 32_768;
 
 /// The most headers that a head may have.
 const MOST_HEADERS: usize = 64;
@@ -58,6 +60,20 @@ impl Head {
             headers,
             len: found.len,
         }))
+    }
+
+    /// The request that has this head and that body.
+    pub fn into_message(self, body: Bytes) -> Message
+        ensures { (h : RequestHead) → HasParts h self → result ≡ message_of h body }
+    {
+        let close = closes(self.minor, self.headers.as_slice());
+        Message {
+            method: self.method,
+            target: self.target,
+            headers: self.headers,
+            body,
+            close,
+        }
     }
 }
 

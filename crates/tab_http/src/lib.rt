@@ -17,7 +17,8 @@ mod tests;
 mod texts;
 mod writing;
 
-pub use heads::Head;
+pub use fields::trim_blanks;
+pub use heads::{Head, LONGEST_HEAD};
 pub use laws::{one_answer, open_bytes_spell_no_message, same_message_before_more, some_answer};
 pub use messages::{Header, Headers, Message, first_value};
 pub use reading::read_message;

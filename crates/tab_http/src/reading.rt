@@ -7,7 +7,7 @@ ghost use Rattle.tab_outside.specs.Faults.{Rose};
 
 use crate::HttpRefused;
 use crate::bodies::read_body;
-use crate::fields::{body_size, closes};
+use crate::fields::body_size;
 use crate::gathering::{read_to_head_end, read_to_limit};
 use crate::heads::{Head, LONGEST_HEAD, is_beyond_repair};
 use crate::messages::Message;
@@ -46,14 +46,7 @@ fn take_message<S: Source>(
     let head = read_head(alloc, source, carry)?;
     let size = body_size(head.method.as_str(), head.headers.as_slice())?;
     let body = read_body(alloc, source, carry, head.len, size)?;
-    let close = closes(head.minor, head.headers.as_slice());
-    Ok(Message {
-        method: head.method,
-        target: head.target,
-        headers: head.headers,
-        body,
-        close,
-    })
+    Ok(head.into_message(body))
 }
 
 /// Reads until a head is at the front of `carry`, or until it has as many bytes without one as a head may have. The

@@ -1,7 +1,7 @@
 use Rattle.std.proofs.Common.{sym}
 use Rattle.tab_http.proofs.Exits.{passed_on, passed_other}
 use Rattle.tab_http.proofs.MessageLemmas.{size_refused}
-use Rattle.tab_http.proofs.TakenLemmas.{refuses_head, refuses_size, refuses_body, took_message, size_said, message_said, no_fault}
+use Rattle.tab_http.proofs.TakenLemmas.{refuses_head, refuses_size, refuses_body, took_message, size_said, no_fault}
 use Rattle.tab_http.proofs.reading.take_message.Goals as goal
 use Rattle.tab_http.specs.Reading.{Refuses}
 
@@ -32,4 +32,4 @@ returns-clause-read g c =
     let is = c.in_ok-head.ensures.head in
     let sized = size_said is.h c.in_ok-head.head c.as_str.result.now c.as_slice.result.now _ is.parts c.as_str.ensures.text c.as_slice.ensures c.in_ok-size.ensures in
     took_message _ _ _ _ c.read_head.new.carry.items _ is.h _ c.in_ok-size.size c.in_ok-body.body _ c.in_ok-head.ensures.gathered is.begins sized c.in_ok-body.ensures.body
-    (message_said is.h c.in_ok-head.head c.as_slice-2.result.now c.in_ok-body.body c.closes-close.result is.parts c.as_slice-2.ensures c.closes-close.ensures)
+    (c.into_message.ensures is.h is.parts)

@@ -1,0 +1,6 @@
+mod BatchLemmas
+mod Exits
+mod LineLemmas
+mod PieceLemmas
+mod RequestLemmas
+mod SectionLemmas

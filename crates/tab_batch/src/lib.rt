@@ -1,0 +1,20 @@
+//! Multipart bodies of entity group transactions: the requests that a batch has, and the text of its reply.
+#![tactic(auto)]
+
+mod batches;
+mod bodies;
+mod boundaries;
+mod lines;
+mod marks;
+mod refusals;
+mod replies;
+mod requests;
+mod sections;
+mod spans;
+#[cfg(test)]
+mod tests;
+
+pub use batches::read_batch;
+pub use boundaries::boundary_of;
+pub use refusals::{BatchRefused, Memory};
+pub use replies::write_batch;
