@@ -1,5 +1,5 @@
 -- The head that the bytes of a part begin with, as if an empty line followed them, and the request that it makes of them.
-use Rattle.std.proofs.Common.{◌≡◌, ℕ, ◌<◌, ◌≤◌, ◌⊎◌, ⊎_elim, min, Bool, true, false, List, [], ◌∷◌, ◌++◌, length, take, drop, refl, sym, ap, ◌∙◌, subst, cond, arith, take-append-drop}
+use Rattle.std.proofs.Common.{◌≡◌, ℕ, ◌<◌, ◌≤◌, ⊎_elim, min, true, false, List, ◌++◌, length, take, drop, refl, sym, ap, ◌∙◌, cond, arith, take-append-drop}
 use Rattle.std.specs.Prelude.{Option, Some, None}
 use Rattle.std.proofs.Math.Seq.{drop-length}
 use Rattle.std.proofs.lemmas.Bool.{cases_lt}
@@ -10,7 +10,7 @@ use Rattle.tab_http.specs.Heads.{BeginsWithHead, HasNoHead, HasParts, IsHead}
 use Rattle.tab_http.specs.Messages.{message_of}
 use Rattle.tab_http.specs.declared.heads.Head.{Head}
 use Rattle.tab_http.specs.declared.messages.Message.{Message}
-use Rattle.tab_batch.specs.Requests.{ending, is_path, place_on_web, target_of, addressed, IsRequest, IsNoRequest}
+use Rattle.tab_batch.specs.Requests.{ending, is_path, place_on_web, target_of, IsRequest, IsNoRequest}
 use Rattle.url.specs.Parser.{parse_url}
 
 -- ---- heads

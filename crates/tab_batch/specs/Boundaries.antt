@@ -1,5 +1,5 @@
 -- The boundary that the value of a Content-Type gives (RFC 2046, section 5.1.1).
-use Rattle.std.specs.Prelude.{ℕ, List, [], ◌∷◌, length, take, drop, map, reverse, Bool, true, false, not, ◌&&◌, ◌==◌, nat_le, Option, Some, None, option_and_then, codes, if◌then◌else◌}
+use Rattle.std.specs.Prelude.{ℕ, List, [], ◌∷◌, length, take, drop, reverse, Bool, false, not, ◌&&◌, ◌==◌, nat_le, Option, Some, None, option_and_then, codes, if◌then◌else◌}
 use Rattle.std.specs.List.{list_any}
 use Rattle.httparse.specs.Grammar.{trim_ows}
 use Rattle.tab_http.specs.Headers.{same_name}

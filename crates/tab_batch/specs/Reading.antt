@@ -1,8 +1,8 @@
 -- What is left to be found where the lines have been read in part.
-use Rattle.std.specs.Prelude.{◌≡◌, ℕ, ◌≤◌, List, [], ◌∷◌, ◌++◌, length, drop, All, Option, Some, None, Result, Ok, Err, ⊤}
+use Rattle.std.specs.Prelude.{◌≡◌, ℕ, ◌≤◌, List, [], ◌++◌, length, drop, All, Option, Some, Ok, Err, ⊤}
 use Rattle.tab_batch.specs.Lines.{Line, lines_at, text_end}
-use Rattle.tab_batch.specs.Marks.{Block, Blocks, blocks_of}
-use Rattle.tab_batch.specs.Parts.{Found, from_first, is_empty, next_mark, request_at, with_request, requests_at, when_closed, change_set, only_part, body_at, settles}
+use Rattle.tab_batch.specs.Marks.{Blocks, blocks_of}
+use Rattle.tab_batch.specs.Parts.{Found, from_first, is_empty, next_mark, request_at, with_request, requests_at, when_closed, change_set, only_part, settles}
 use Rattle.tab_batch.specs.declared.lines.Line.{Line as SeenLine}
 use Rattle.tab_batch.specs.declared.refusals.BatchRefused.{BatchRefused}
 use Rattle.tab_batch.specs.declared.refusals.BatchRefused.TheVariants.{BadMultipart, BadPart, Memory}

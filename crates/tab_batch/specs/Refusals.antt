@@ -1,5 +1,5 @@
 -- What a batch gives, and why it is refused.
-use Rattle.std.specs.Prelude.{◌≡◌, ℕ, List, [], ◌∷◌, ◌++◌, length, Result, Ok, Err, ⊤}
+use Rattle.std.specs.Prelude.{◌≡◌, ℕ, List, ◌∷◌, ◌++◌, length, Ok, Err, ⊤}
 use Rattle.tab_http.specs.declared.messages.Message.{Message}
 use Rattle.tab_batch.specs.Parts.{requests_of}
 use Rattle.tab_batch.specs.Requests.{AreRequests, IsNoRequest}

@@ -1,5 +1,5 @@
 -- The request of a part (RFC 9112, sections 2 and 3; the URL Standard for absolute addresses).
-use Rattle.std.specs.Prelude.{◌≡◌, ℕ, List, [], ◌∷◌, ◌++◌, length, drop, Bool, false, ◌||◌, ◌==◌, Option, Some, None, Result, Ok, Err, codes, bytes_eq, if◌then◌else◌}
+use Rattle.std.specs.Prelude.{◌≡◌, ℕ, List, [], ◌∷◌, ◌++◌, length, drop, Bool, false, ◌||◌, ◌==◌, Option, Some, None, Ok, Err, codes, bytes_eq, if◌then◌else◌}
 use Rattle.httparse.specs.Grammar.{RequestHead, print_request}
 use Rattle.tab_http.specs.Heads.{BeginsWithHead}
 use Rattle.tab_http.specs.Messages.{message_of}

@@ -1,6 +1,5 @@
-use Rattle.std.proofs.Common.{rules, arith, sym, subst}
+use Rattle.std.proofs.Common.{arith}
 use Rattle.tab_batch.proofs.BatchLemmas.{next_request, first_bad}
-use Rattle.tab_batch.specs.Refusals.{FirstBad}
 use Rattle.tab_batch.proofs.batches.read_requests.Goals as goal
 
 pub returns-in_default-clause-refused : goal.returns-in_default-clause-refused

@@ -1,4 +1,4 @@
-use Rattle.std.proofs.Common.{sym, subst, ◌∙◌}
+use Rattle.std.proofs.Common.{◌∙◌}
 use Rattle.tab_batch.proofs.Exits.{passed_on, told}
 use Rattle.tab_batch.specs.Parts.{spans_of}
 use Rattle.tab_batch.specs.Reading.{Tells}

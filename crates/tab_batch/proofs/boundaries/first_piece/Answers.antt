@@ -1,4 +1,4 @@
-use Rattle.std.proofs.Common.{rules, ◌∙◌, sym, subst}
+use Rattle.std.proofs.Common.{rules, ◌∙◌}
 use Rattle.std.proofs.lemmas.List.{take_rest}
 use Rattle.tab_batch.proofs.PieceLemmas.{begins, goes_on, parted, whole}
 use Rattle.tab_batch.proofs.boundaries.first_piece.Goals as goal

@@ -1,4 +1,3 @@
-use Rattle.std.proofs.Common.{rules, ◌∙◌}
 use Rattle.std.proofs.lemmas.List.{take_rest}
 use Rattle.tab_batch.proofs.RequestLemmas.{drop_least}
 use Rattle.tab_batch.proofs.requests.bytes_behind.Goals as goal

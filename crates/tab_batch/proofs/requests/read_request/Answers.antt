@@ -1,4 +1,3 @@
-use Rattle.std.proofs.Common.{rules, sym, ◌∙◌, ap}
 use Rattle.tab_batch.proofs.RequestLemmas.{at_path, at_address, nowhere}
 use Rattle.tab_batch.proofs.requests.read_request.Goals as goal
 
