@@ -1,5 +1,6 @@
 -- A value parted at its semicolons, taken apart from the front.
 use Rattle.std.proofs.Common.{◌≡◌, ℕ, suc, ◌+◌, ◌<◌, ◌≤◌, ◌&&◌, ◌==◌, Bool, true, false, not, List, [], ◌∷◌, ◌++◌, length, get_or, take, drop, refl, sym, ap, ◌∙◌, cond, arith, append-nil, append_assoc, add-one, drop-cons}
+use Rattle.std.specs.List.{list_all}
 use Rattle.std.proofs.Math.Seq.{take-suc, take-length, drop-length}
 use Rattle.tab_batch.specs.Lines.{cons_first}
 use Rattle.tab_batch.specs.Boundaries.{turned, pieces}
@@ -50,3 +51,40 @@ begins (b ∷ bytes) = either (b == 59 && not false) ([] ∷ pieces false bytes)
     either : (v : Bool) (x y : List (List ℕ)) → x ≡ behind_front [] x → y ≡ behind_front [] y → cond v x y ≡ behind_front [] (cond v x y)
     either true x y e f = e
     either false x y e f = f
+
+-- ---- pieces without semicolons and quotes
+
+abbrev pub is_plain : ℕ → Bool
+is_plain b = not (b == 59) && not (b == 34)
+
+plain_goes_on : (b : ℕ) (xs ys : List (List ℕ)) (bytes : List ℕ) → is_plain b ≡ true → pieces false bytes ≡ xs → cons_first b xs ≡ ys → pieces false (b ∷ bytes) ≡ ys
+unfolding pieces
+plain_goes_on b xs ys bytes plain rest is = by_tests (b == 59) (b == 34) plain ∙ ap (cons_first b) rest ∙ is
+  where
+    by_tests : (v w : Bool) → (not v && not w) ≡ true → cond (v && not false) ([] ∷ pieces false bytes) (cons_first b (pieces (cond w (not false) false) bytes)) ≡ cons_first b (pieces false bytes)
+    by_tests true w none = absurd (cc)
+    by_tests false true none = absurd (cc)
+    by_tests false false none = refl
+
+first_plain : (b : ℕ) (bytes : List ℕ) → list_all is_plain (b ∷ bytes) ≡ true → (is_plain b ≡ true) × (list_all is_plain bytes ≡ true)
+first_plain b bytes all = both (is_plain b) (list_all is_plain bytes) all
+  where
+    both : (v w : Bool) → (v && w) ≡ true → (v ≡ true) × (w ≡ true)
+    both true w all = (refl, all)
+    both false w all = absurd (cc)
+
+-- a piece with neither ends at the first semicolon
+pub first_of_plain : (front rest : List ℕ) → list_all is_plain front ≡ true → pieces false (front ++ 59 ∷ rest) ≡ front ∷ pieces false rest
+unfolding pieces
+first_of_plain [] rest all = refl
+first_of_plain (b ∷ front) rest all =
+    let plain = first_plain b front all in
+    plain_goes_on b (front ∷ pieces false rest) ((b ∷ front) ∷ pieces false rest) (front ++ 59 ∷ rest) plain.0 (first_of_plain front rest plain.1) refl
+
+-- bytes with neither are one piece
+pub only_plain : (bytes : List ℕ) → list_all is_plain bytes ≡ true → pieces false bytes ≡ bytes ∷ []
+unfolding pieces
+only_plain [] all = refl
+only_plain (b ∷ bytes) all =
+    let plain = first_plain b bytes all in
+    plain_goes_on b (bytes ∷ []) ((b ∷ bytes) ∷ []) bytes plain.0 (only_plain bytes plain.1) refl

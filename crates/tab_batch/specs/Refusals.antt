@@ -1,5 +1,5 @@
 -- What a batch gives, and why it is refused.
-use Rattle.std.specs.Prelude.{◌≡◌, ℕ, List, ◌∷◌, ◌++◌, length, Ok, Err, ⊤}
+use Rattle.std.specs.Prelude.{◌≡◌, ℕ, List, ◌∷◌, ◌++◌, length, Result, Ok, Err, ⊤}
 use Rattle.tab_http.specs.declared.messages.Message.{Message}
 use Rattle.tab_batch.specs.Parts.{requests_of}
 use Rattle.tab_batch.specs.Requests.{AreRequests, IsNoRequest}
@@ -34,3 +34,17 @@ abbrev pub PartsRefused : List (List ℕ) → BatchRefused → Type 0
 PartsRefused parts (BadMultipart at) = ⊥
 PartsRefused parts (BadPart index) = FirstBad parts index
 PartsRefused parts Memory = ⊤
+
+abbrev pub Answer : Type 0
+Answer = Result (List Message) BatchRefused
+
+-- the refusals that the bytes decide
+abbrev pub IsDecided : BatchRefused → Type 0
+IsDecided (BadMultipart at) = ⊤
+IsDecided (BadPart index) = ⊤
+IsDecided Memory = ⊥
+
+-- the answer to a batch where memory is found
+abbrev pub Gives : List ℕ → List ℕ → Answer → Type 0
+Gives boundary bytes (Ok messages) = IsBatch boundary bytes messages
+Gives boundary bytes (Err refused) = IsDecided refused × Refuses boundary bytes refused

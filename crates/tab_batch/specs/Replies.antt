@@ -1,6 +1,8 @@
 -- The text of a batch's reply (RFC 2046, section 5.1.1).
-use Rattle.std.specs.Prelude.{ℕ, List, [], ◌∷◌, ◌++◌, codes}
-use Rattle.std.specs.List.{flat_map}
+use Rattle.std.specs.Prelude.{◌≡◌, ℕ, List, [], ◌∷◌, ◌++◌, None, codes}
+use Rattle.std.specs.List.{flat_map, AllByRecursion}
+use Rattle.tab_batch.specs.Lines.{cut_lines, without_end}
+use Rattle.tab_batch.specs.Marks.{mark_of}
 
 abbrev pub line_end : List ℕ
 line_end = 13 ∷ 10 ∷ []
@@ -33,3 +35,12 @@ part_text reply = part_head ++ line reply
 -- the text of the reply to a batch, from the texts of the replies to its items
 abbrev pub batch_text : List (List ℕ) → List ℕ
 batch_text replies = opening ++ (flat_map part_text replies ++ ending)
+
+-- a line that marks off no part
+pub record MarksNothing (bytes : List ℕ) : Type 0 where
+  pub outer : mark_of outer_boundary (without_end bytes) ≡ None
+  pub inner : mark_of inner_boundary (without_end bytes) ≡ None
+
+-- a reply whose lines, with an end behind the last, mark off no part
+abbrev pub IsPlain : List ℕ → Type 0
+IsPlain reply = AllByRecursion MarksNothing (cut_lines (line reply))

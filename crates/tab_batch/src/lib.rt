@@ -4,6 +4,7 @@
 mod batches;
 mod bodies;
 mod boundaries;
+mod laws;
 mod lines;
 mod marks;
 mod refusals;
@@ -16,5 +17,6 @@ mod tests;
 
 pub use batches::read_batch;
 pub use boundaries::boundary_of;
+pub use laws::{one_answer, replies_are_read_again};
 pub use refusals::{BatchRefused, Memory};
 pub use replies::write_batch;

@@ -106,21 +106,63 @@ fn the_only_part_is_found_by_its_lines(rt: HostRuntime) -> Result<(), Fail> {
         ("--o\nA: b\n^", ""),
         ("--o\nA: b\n^\n--o--\n", ""),
         ("--o\nA: b\n^Content-Type: text/plain\n--o\n", ""),
-        ("--o\n^Content-Type:\nContent-Type: multipart/mixed;boundary=i\n", ""),
-        ("--o\nContent-Type: multipart/mixed;boundary=i\n^--o--\n", ""),
+        (
+            "--o\n^Content-Type:\nContent-Type: multipart/mixed;boundary=i\n",
+            "",
+        ),
+        (
+            "--o\nContent-Type: multipart/mixed;boundary=i\n^--o--\n",
+            "",
+        ),
         ("--o\nContent-Type: multipart/mixed;boundary=i\nA: b\n^", ""),
-        ("--o\nContent-Type: multipart/mixed;boundary=i\n\n--i--\n^--o\n\n--o--\n", ""),
-        ("--o\nContent-Type: multipart/mixed;boundary=i\n\n--i\n--i--\n^--o\n", ""),
-        ("--o\nContent-Type: multipart/mixed;boundary=i\n\n--i--\n--O--\n^", ""),
-        ("--o\nContent-Type: multipart/mixed;boundary=i\n\n--o--\n^", ""),
-        ("--o\nContent-Type: multipart/mixed;boundary=o\n\n^--o\n\n--o--\n", ""),
-        ("--o\nContent-Type: multipart/mixed;boundary=o\n\n--o--\n^", ""),
-        ("--o\nContent-Type: multipart/mixed;boundary=i\n\n--i\n\nab\n--o--\n^", ""),
-        ("--o\nContent-Type: multipart/mixed;boundary=i\n\n--i--\n--o--", ""),
-        ("--o \t\r\ncontent-TYPE:multipart/mixed;boundary=i\r\n\r\n--i--\r\n--o-- \r\n", ""),
-        ("a\r\n\r\n--o\nA: b\nContent-Type: multipart/mixed;boundary=i\n\n--i--\n--o--\n--o\n--o\na", ""),
-        ("--o\nContent-Type: multipart/mixed;boundary=\"o i\"\n\n--o i\n\nGET / HTTP/1.1\n--o i--\n--o--", "GET / [] "),
-        ("--o\nContent-Type: multipart/mixed;boundary=oi\n\n--oi\n\nGET / HTTP/1.1\n--oi--\n--o--", "GET / [] "),
+        (
+            "--o\nContent-Type: multipart/mixed;boundary=i\n\n--i--\n^--o\n\n--o--\n",
+            "",
+        ),
+        (
+            "--o\nContent-Type: multipart/mixed;boundary=i\n\n--i\n--i--\n^--o\n",
+            "",
+        ),
+        (
+            "--o\nContent-Type: multipart/mixed;boundary=i\n\n--i--\n--O--\n^",
+            "",
+        ),
+        (
+            "--o\nContent-Type: multipart/mixed;boundary=i\n\n--o--\n^",
+            "",
+        ),
+        (
+            "--o\nContent-Type: multipart/mixed;boundary=o\n\n^--o\n\n--o--\n",
+            "",
+        ),
+        (
+            "--o\nContent-Type: multipart/mixed;boundary=o\n\n--o--\n^",
+            "",
+        ),
+        (
+            "--o\nContent-Type: multipart/mixed;boundary=i\n\n--i\n\nab\n--o--\n^",
+            "",
+        ),
+        (
+            "--o\nContent-Type: multipart/mixed;boundary=i\n\n--i--\n--o--",
+            "",
+        ),
+        (
+            "--o \t\r\ncontent-TYPE:multipart/mixed;boundary=i\r\n\r\n--i--\r\n--o-- \r\n",
+            "",
+        ),
+        (
+            "a\r\n\r\n--o\nA: b\nContent-Type: multipart/mixed;boundary=i\n\n--i--\n--o--\n--o\n--o\na",
+            "",
+        ),
+        (
+            "--o\nContent-Type: multipart/mixed;boundary=\"o i\"\n\n--o i\n\nGET / HTTP/1.1\n--o i--\n--o--",
+            "GET / [] ",
+        ),
+        (
+            "--o\nContent-Type: multipart/mixed;boundary=oi\n\n--oi\n\nGET / HTTP/1.1\n--oi--\n--o--",
+            "GET / [] ",
+        ),
     ] {
         check(&rt, rt.alloc(), "o", text, wanted)?;
     }
@@ -143,22 +185,55 @@ fn requests_are_found_by_the_lines_of_their_parts(rt: HostRuntime) -> Result<(),
         ("--i\n\nGET /a HTTP/1.1\nA: b\n--i--\n", "GET /a [] "),
         ("--i\n\nGET /a HTTP/1.1\nA: b\n\n--i--\n", "GET /a [] "),
         ("--i\n\nGET /a HTTP/1.1\nA: b\n\n\n--i--\n", "GET /a [] "),
-        ("--i\n\nGET /a HTTP/1.1\nA: b\n\n\n\n--i--\n", "GET /a [\n] "),
+        (
+            "--i\n\nGET /a HTTP/1.1\nA: b\n\n\n\n--i--\n",
+            "GET /a [\n] ",
+        ),
         ("--i\n\nGET /a HTTP/1.1\nA b\n--i--\n", "part 0"),
-        ("--i\n\nPUT /a HTTP/1.1\n\nb\r\n\r\n--i--\n", "PUT /a [b\r\n] "),
-        ("--i\n\nPUT /a HTTP/1.1\n\nb\n\r\r\n--i--\n", "PUT /a [b\n\r] "),
-        ("--i\n\nPUT /a HTTP/1.1\nContent-Length: 9\n\nb\n--i--\n", "PUT /a [b] "),
-        ("--i\n\nPUT /a HTTP/1.1\nContent-Length: x\n\nb\n--i--\n", "PUT /a [b] "),
-        ("--i\n\nPUT /a HTTP/1.1\nTransfer-Encoding: a\n\nb\n--i--\n", "PUT /a [b] "),
-        ("--i\n\nPUT /a HTTP/1.1\n\n--ij\n--I--\n --i\n--i--\n", "PUT /a [--ij\n--I--\n --i] "),
-        ("--i \n\nPUT /a HTTP/1.1\n\nb\n--i\t\nA: b\n\nPUT /c HTTP/1.1\n\nd\n--i-- \n", "PUT /a [b] PUT /c [d] "),
-        ("--i\n\nGET /a HTTP/1.1\n--i\n\nab\n--i\n\ncd\n--i--\n", "part 1"),
+        (
+            "--i\n\nPUT /a HTTP/1.1\n\nb\r\n\r\n--i--\n",
+            "PUT /a [b\r\n] ",
+        ),
+        (
+            "--i\n\nPUT /a HTTP/1.1\n\nb\n\r\r\n--i--\n",
+            "PUT /a [b\n\r] ",
+        ),
+        (
+            "--i\n\nPUT /a HTTP/1.1\nContent-Length: 9\n\nb\n--i--\n",
+            "PUT /a [b] ",
+        ),
+        (
+            "--i\n\nPUT /a HTTP/1.1\nContent-Length: x\n\nb\n--i--\n",
+            "PUT /a [b] ",
+        ),
+        (
+            "--i\n\nPUT /a HTTP/1.1\nTransfer-Encoding: a\n\nb\n--i--\n",
+            "PUT /a [b] ",
+        ),
+        (
+            "--i\n\nPUT /a HTTP/1.1\n\n--ij\n--I--\n --i\n--i--\n",
+            "PUT /a [--ij\n--I--\n --i] ",
+        ),
+        (
+            "--i \n\nPUT /a HTTP/1.1\n\nb\n--i\t\nA: b\n\nPUT /c HTTP/1.1\n\nd\n--i-- \n",
+            "PUT /a [b] PUT /c [d] ",
+        ),
+        (
+            "--i\n\nGET /a HTTP/1.1\n--i\n\nab\n--i\n\ncd\n--i--\n",
+            "part 1",
+        ),
         ("--i\n\nGET ftp://h/a HTTP/1.1\n--i--\n", "part 0"),
         ("--i\n\nGET http://[ HTTP/1.1\n--i--\n", "part 0"),
         ("--i\n\nGET a HTTP/1.1\n--i--\n", "part 0"),
         ("--i\n\nGET http://h HTTP/1.1\n--i--\n", "GET / [] "),
-        ("--i\n\nGET //h/a/../b HTTP/1.1\n--i--\n", "GET //h/a/../b [] "),
-        ("--i\n\nGET HTTPS://u@h:9/a/../b\\c?d='e'#f HTTP/1.1\n--i--\n", "GET /b/c?d=%27e%27 [] "),
+        (
+            "--i\n\nGET //h/a/../b HTTP/1.1\n--i--\n",
+            "GET //h/a/../b [] ",
+        ),
+        (
+            "--i\n\nGET HTTPS://u@h:9/a/../b\\c?d='e'#f HTTP/1.1\n--i--\n",
+            "GET /b/c?d=%27e%27 [] ",
+        ),
     ] {
         let alloc = rt.alloc();
         let text = format!(in alloc; "{HEAD}{inside}--o--\n")?;
@@ -190,7 +265,10 @@ fn many_parts_are_read_and_long_heads_are_refused(rt: HostRuntime) -> Result<(),
     for parts in [100, 101] {
         let batch = batch_of(alloc, parts, 1, 1)?;
         let read = read_batch(alloc, b"o", &batch);
-        assert!(rt; matches!(&read, Ok(messages) if messages.len() == parts), "{parts}");
+        assert!(rt;
+            matches!(&read, Ok(messages) if messages.len() == parts),
+            "{parts}"
+        );
     }
     for (headers, size, wanted) in [
         (64, 1, "GET / [] "),
@@ -234,7 +312,9 @@ fn boundaries_are_read_from_a_content_type(rt: HostRuntime) -> Result<(), Fail> 
     for (size, wanted) in [(70, true), (71, false)] {
         for quote in ["", "\""] {
             let letters = format!(in rt.alloc(); "{:x>size$}", "")?;
-            let value = format!(in rt.alloc(); "multipart/mixed; boundary={quote}{letters}{quote}")?;
+            let value = format!(in rt.alloc();
+                "multipart/mixed; boundary={quote}{letters}{quote}"
+            )?;
             let read = boundary_of(value.as_bytes()).is_some();
             assert!(rt; read == wanted, "{size}{quote}");
         }
