@@ -251,7 +251,7 @@ fn batch_of(alloc: Global, parts: usize, headers: usize, size: usize) -> Result<
             text.extend_from_slice(b"A: b\n")?;
         }
         text.extend_from_slice(b"A:")?;
-        let end = text.len() + size;
+        let end = text.len().saturating_add(size);
         text.resize(end, b'x')?;
         text.extend_from_slice(b"\n\n\n")?;
     }

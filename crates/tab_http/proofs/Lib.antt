@@ -4,6 +4,7 @@ mod Exits
 mod HeadLemmas
 mod HeaderLemmas
 mod MessageLemmas
+mod PastLemmas
 mod PlaceLemmas
 mod ReadingLemmas
 mod TakenLemmas

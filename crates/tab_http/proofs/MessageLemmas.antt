@@ -69,10 +69,10 @@ body_whole h behind size enough = cond-true (nat_le size (length behind)) _ _ (l
 pub body_short : (h : RequestHead) (behind : List ℕ) (size : ℕ) → length behind < size → with_body h behind (Ok size) ≡ Err EndInside
 body_short h behind size fewer = cond-false (nat_le size (length behind)) _ _ (lt-leb size (length behind) fewer)
 
-no_message : (message : Message) (rest : List ℕ) (refused : HttpRefused) → ◌≡◌ {A = Answer} (Err refused) (Ok (message, rest)) → ⊥
+pub no_message : (message : Message) (rest : List ℕ) (refused : HttpRefused) → ◌≡◌ {A = Answer} (Err refused) (Ok (message, rest)) → ⊥
 no_message message rest refused is = absurd (cc)
 
-pair_of : (a b : Message × List ℕ) → ◌≡◌ {A = Answer} (Ok a) (Ok b) → a ≡ b
+pub pair_of : (a b : Message × List ℕ) → ◌≡◌ {A = Answer} (Ok a) (Ok b) → a ≡ b
 pair_of a b is = cc
 
 body_more : (h : RequestHead) (behind more : List ℕ) (size : Result ℕ HttpRefused) (message : Message) (rest : List ℕ) → with_body h behind size ≡ Ok (message, rest)

@@ -1,5 +1,5 @@
 -- Bytes that come read by read.
-use Rattle.std.proofs.Common.{◌≡◌, ◌≢◌, ℕ, ◌-◌, ◌<◌, ◌≤◌, ◌↔◌, ◌⊎◌, ⊎_elim, inl, inr, List, ◌++◌, length, take, drop, refl, sym, ap, ◌∙◌, subst, arith, append_assoc, take-append-drop}
+use Rattle.std.proofs.Common.{◌≡◌, ◌≢◌, ℕ, ◌+◌, ◌-◌, ◌<◌, ◌≤◌, ◌↔◌, ◌⊎◌, ⊎_elim, inl, inr, List, ◌++◌, length, take, drop, refl, sym, ap, ◌∙◌, subst, arith, append_assoc, length-append, take-append-drop}
 use Rattle.std.specs.Prelude.{Option, Bool, true, false, fold}
 use Rattle.std.specs.Io.KnownBytes.{IsAtEnd}
 use Rattle.std.proofs.KnownBytes.{Consumes-trans}
@@ -21,11 +21,12 @@ use Rattle.tab_outside.specs.Transfers.{Moved}
 -- ---- read by read
 
 -- one read more of what is still open
-pub gathered_more : (old middle new : Option (List ℕ)) (before there after : List ℕ) → Gathered old middle before there → IsOpen there → Moved middle new there after → Gathered old new before after
-gathered_more old middle new before there after first is_open moved = record {
+pub gathered_more : (old middle new : Option (List ℕ)) (before there after : List ℕ) → Gathered old middle before there → IsOpen there → Moved middle new there after → length after ≤ length there + 4096
+    → Gathered old new before after
+gathered_more old middle new before there after first is_open moved little = record {
   came = first.came ++ moved.bytes;
   consumed = Consumes-trans old middle new first.came moved.bytes first.consumed moved.consumed;
-  needed = last first.came moved.bytes refl (subst IsOpen first.behind is_open);
+  needed = last first.came moved.bytes refl (omega (arith, ap length moved.behind, length-append there moved.bytes, little)) (subst IsOpen first.behind is_open);
   behind = moved.behind ∙ ap (λ (xs : List ℕ). xs ++ moved.bytes) first.behind ∙ append_assoc before first.came moved.bytes;
 }
 
@@ -91,9 +92,9 @@ gathered_on old middle new before there after first second = record {
   where
     needed_on : (before there xs ys : List ℕ) → there ≡ before ++ xs → WereNeeded before xs → WereNeeded there ys → WereNeeded before (xs ++ ys)
     needed_on before there xs ys is (none e) (none f) = none (ap (λ (zs : List ℕ). zs ++ ys) e ∙ f)
-    needed_on before there xs ys is (last front more e is_open) (none f) = last front more (ap (λ (zs : List ℕ). xs ++ zs) f ∙ append-nil xs ∙ e) is_open
-    needed_on before there xs ys is first (last front more e is_open) =
-        last (xs ++ front) more (ap (λ (zs : List ℕ). xs ++ zs) e ∙ sym (append_assoc xs front more)) (subst IsOpen (ap (λ (zs : List ℕ). zs ++ front) is ∙ append_assoc before xs front) is_open)
+    needed_on before there xs ys is (last front more e little is_open) (none f) = last front more (ap (λ (zs : List ℕ). xs ++ zs) f ∙ append-nil xs ∙ e) little is_open
+    needed_on before there xs ys is first (last front more e little is_open) =
+        last (xs ++ front) more (ap (λ (zs : List ℕ). xs ++ zs) e ∙ sym (append_assoc xs front more)) little (subst IsOpen (ap (λ (zs : List ℕ). zs ++ front) is ∙ append_assoc before xs front) is_open)
 
 -- ---- heads
 

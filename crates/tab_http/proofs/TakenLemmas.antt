@@ -1,5 +1,5 @@
 -- What reading a message took, from what its head and its body took.
-use Rattle.std.proofs.Common.{◌≡◌, ℕ, ◌+◌, ◌-◌, ◌<◌, ◌≤◌, ◌⊎◌, inl, inr, ⊎_elim, List, [], ◌∷◌, ◌++◌, length, take, drop, refl, sym, ap, ◌∙◌, subst, arith, append_assoc, length-append, take-append-drop}
+use Rattle.std.proofs.Common.{◌≡◌, ℕ, ◌+◌, ◌-◌, ◌<◌, ◌≤◌, ◌⊎◌, inl, inr, ⊎_elim, List, [], ◌∷◌, ◌++◌, length, take, drop, refl, sym, ap, ◌∙◌, subst, arith, append_assoc, length-append, length-drop, take-append-drop}
 use Rattle.std.specs.Prelude.{Option, Some, None, Result, Ok, Err, IfOk, IfErr}
 use Rattle.std.specs.Io.KnownBytes.{Consumes, IsAtEnd}
 use Rattle.std.proofs.KnownBytes.{Consumes-trans}
@@ -72,15 +72,15 @@ refuses_size old new before after _ h behind may gathered begins is = absurd may
 
 -- what came for the head and then for the body, where the bytes before the last read were short of a body
 needed_on : (before there xs ys : List ℕ) (h : RequestHead) (behind : List ℕ) (size : ℕ) → there ≡ before ++ xs → BeginsWithHead there h behind → size_of_body h ≡ Ok size
-    → WereNeeded before xs → (0 < length ys → (front : List ℕ) × (more : List ℕ) × (ys ≡ front ++ more) × (length (behind ++ front) < size)) → WereNeeded before (xs ++ ys)
+    → WereNeeded before xs → (0 < length ys → (front : List ℕ) × (more : List ℕ) × (ys ≡ front ++ more) × (length more ≤ 4096) × (length (behind ++ front) < size)) → WereNeeded before (xs ++ ys)
 needed_on before there xs [] h behind size is begins sized first later = subst (WereNeeded before) (sym (append-nil xs)) first
 needed_on before there xs (y ∷ ys) h behind size is begins sized first later =
     let short = later (omega arith) in
-    last (xs ++ short.0) short.1 (ap (λ (zs : List ℕ). xs ++ zs) short.2 ∙ sym (append_assoc xs short.0 short.1))
-    (subst IsOpen (ap (λ (zs : List ℕ). zs ++ short.0) is ∙ append_assoc before xs short.0) (in_body h (behind ++ short.0) size (begins_more there h behind short.0 begins) sized short.3))
+    last (xs ++ short.0) short.1 (ap (λ (zs : List ℕ). xs ++ zs) short.2 ∙ sym (append_assoc xs short.0 short.1)) short.3
+    (subst IsOpen (ap (λ (zs : List ℕ). zs ++ short.0) is ∙ append_assoc before xs short.0) (in_body h (behind ++ short.0) size (begins_more there h behind short.0 begins) sized short.4))
 
-whole_is_short : (behind ys : List ℕ) (size : ℕ) → length (behind ++ ys) < size → (front : List ℕ) × (more : List ℕ) × (ys ≡ front ++ more) × (length (behind ++ front) < size)
-whole_is_short behind ys size short = (ys, [], sym (append-nil ys), short)
+whole_is_short : (behind ys : List ℕ) (size : ℕ) → length (behind ++ ys) < size → (front : List ℕ) × (more : List ℕ) × (ys ≡ front ++ more) × (length more ≤ 4096) × (length (behind ++ front) < size)
+whole_is_short behind ys size short = (ys, [], sym (append-nil ys), omega arith, short)
 
 -- the bytes of a head and a body that is not whole are open
 open_body : (before there xs ys : List ℕ) (h : RequestHead) (behind : List ℕ) (size : ℕ) → there ≡ before ++ xs → BeginsWithHead there h behind → size_of_body h ≡ Ok size
@@ -127,12 +127,12 @@ refuses_body old middle new before there h behind size _ gathered begins sized i
 
 -- the front of what came for a body, without its last byte, is short of it
 front_is_short : (behind ys body after : List ℕ) (size : ℕ) → behind ++ ys ≡ body ++ after → length body ≡ size → (0 < length ys → after ≡ []) → 0 < length ys
-    → (front : List ℕ) × (more : List ℕ) × (ys ≡ front ++ more) × (length (behind ++ front) < size)
+    → (front : List ℕ) × (more : List ℕ) × (ys ≡ front ++ more) × (length more ≤ 4096) × (length (behind ++ front) < size)
 front_is_short behind ys body after size whole exact missing some =
     let count = length ys - 1 in
     let full : length behind + length ys ≡ size =
     omega (arith, length-append behind ys, ap length whole, length-append body after, ap length (missing some), exact) in
-    (take count ys, drop count ys, sym (take-append-drop count ys), omega (arith, length-append behind (take count ys), length-take count ys, full, some))
+    (take count ys, drop count ys, sym (take-append-drop count ys), omega (arith, length-drop count ys), omega (arith, length-append behind (take count ys), length-take count ys, full, some))
 
 pub took_message : (old middle new : Option (List ℕ)) (before there after : List ℕ) (h : RequestHead) (behind : List ℕ) (size : ℕ) (body : List ℕ) (message : Message) → Gathered old middle before there
     → BeginsWithHead there h behind → size_of_body h ≡ Ok size → TookBody middle new behind after size body → message ≡ message_of h body → TookMessage old new before after message

@@ -1,5 +1,5 @@
 -- What reading a message takes from a source, and what it leaves.
-use Rattle.std.specs.Prelude.{◌≡◌, ℕ, ◌<◌, ◌⊎◌, List, [], ◌++◌, length, Option, Some, Result, Ok, Err, ⊤}
+use Rattle.std.specs.Prelude.{◌≡◌, ℕ, ◌<◌, ◌≤◌, ◌⊎◌, List, [], ◌++◌, length, Option, Some, Result, Ok, Err, ⊤}
 use Rattle.std.specs.Io.KnownBytes.{Consumes, IsAtEnd}
 use Rattle.tab_http.specs.Heads.{HasNoHead}
 use Rattle.tab_http.specs.Messages.{RefusesHeadless, Spells, IsParsed, IsOpen}
@@ -11,10 +11,10 @@ use Rattle.tab_outside.specs.declared.pieces.FillRefused.TheVariants.{Ended, Fai
 
 -- ---- messages
 
--- None of the bytes that came behind those before was asked for in vain: none came, or those before the last read were open.
+-- No read was made in vain: nothing came, or the bytes before the last were open, and these are as many as one read asks for.
 pub data WereNeeded (before came : List ℕ) : Type 0 where
   none : came ≡ [] → WereNeeded before came
-  last : (front more : List ℕ) → came ≡ front ++ more → IsOpen (before ++ front) → WereNeeded before came
+  last : (front more : List ℕ) → came ≡ front ++ more → length more ≤ 4096 → IsOpen (before ++ front) → WereNeeded before came
 
 -- what came behind the bytes before makes them spell the message, and those after are behind it
 pub record TookMessage (old new : Option (List ℕ)) (before after : List ℕ) (message : Message) : Type 0 where

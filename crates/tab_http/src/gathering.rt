@@ -1,4 +1,4 @@
-ghost use Rattle.std.specs.Prelude.{◌≡◌, ◌<◌, ◌≤◌, ◌⊎◌, length, vec_len, MatchBool, IfOk, IfErr, OnOk, OnErr, IsErrOf};
+ghost use Rattle.std.specs.Prelude.{◌≡◌, ◌+◌, ◌<◌, ◌≤◌, ◌⊎◌, length, vec_len, MatchBool, IfOk, IfErr, OnOk, OnErr, IsErrOf};
 ghost use Rattle.std.specs.Io.KnownBytes.{IsAtEnd};
 ghost use Rattle.tab_http.specs.Places.{place_after};
 ghost use Rattle.tab_http.specs.Reading.{Gathered, NeverHasHead, ReadRefused, IsReadRefusal};
@@ -66,6 +66,7 @@ fn read_more<S: Source>(
     carry: &mut Vec<u8>,
 ) -> Result<bool, HttpRefused>
     requires { 0 < length piece.old }
+    ensures little { length carry.new.items ≤ length carry.old.items + length piece.old }
     ensures moved { Moved (S.left source.old) (S.left source.new) carry.old.items carry.new.items }
     ensures came { IfOk result (λ some. MatchBool some (vec_len carry.old < vec_len carry.new) (IsAtEnd (S.left source.new))) }
     ensures kept { OnErr result (carry.new.items ≡ carry.old.items) }

@@ -1,6 +1,7 @@
-ghost use Rattle.std.specs.Prelude.{◌≡◌, ℕ, ◌⊎◌, List, ◌++◌, Ok};
+ghost use Rattle.std.specs.Prelude.{◌≡◌, ℕ, ◌≤◌, ◌⊎◌, max, List, ◌++◌, length, Option, Ok};
 ghost use Rattle.tab_http.specs.Heads.{HasNoHead};
 ghost use Rattle.tab_http.specs.Messages.{Answer, Spells, IsOpen, IsParsers};
+ghost use Rattle.tab_http.specs.Reading.{TookMessage};
 ghost use Rattle.tab_http.specs.declared.messages.Message.{Message as TheMessage};
 
 /// No bytes spell two answers, but where they begin with no head and the parser decides between two refusals.
@@ -21,4 +22,10 @@ pub fn same_message_before_more()
 /// Bytes that are open spell no message.
 pub fn open_bytes_spell_no_message()
     ensures { (bytes : List ℕ) (message : TheMessage) (rest : List ℕ) → IsOpen bytes → Spells bytes (Ok (message, rest)) → ⊥ }
+{}
+
+/// Behind a message that was read stand no more bytes than were carried before, or than 4,095, one fewer than a read
+/// asks for.
+pub fn little_is_read_past_a_message()
+    ensures { (old new : Option (List ℕ)) (before after : List ℕ) (message : TheMessage) → TookMessage old new before after message → length after ≤ max (length before) 4095 }
 {}

@@ -17,7 +17,7 @@ returns-then-is_ended-clause-reached g c =
 pub returns-in_err-read_more-clause-gathered : goal.returns-in_err-read_more-clause-gathered
 returns-in_err-read_more-clause-gathered g c =
     let here = place_read c.loop-piece.carry.items c.deref.result.now c.loop-piece.seen c.loop-piece.place c.after-place.result c.deref.ensures.value c.loop-piece.invariant.place c.after-place.ensures in
-    gathered_more _ _ _ _ c.loop-piece.carry.items _ c.loop-piece.invariant.gathered (open_at c.loop-piece.carry.items c.after-place.result c.is_ended.result here c.is_ended.ensures c.if-is_ended.false (search rules)) c.read_more.ensures.moved
+    gathered_more _ _ _ _ c.loop-piece.carry.items _ c.loop-piece.invariant.gathered (open_at c.loop-piece.carry.items c.after-place.result c.is_ended.result here c.is_ended.ensures c.if-is_ended.false (search rules)) c.read_more.ensures.moved (omega (arith, c.read_more.ensures.little))
 
 pub returns-in_err-read_more-clause-refused : goal.returns-in_err-read_more-clause-refused
 returns-in_err-read_more-clause-refused g c =
@@ -27,13 +27,13 @@ returns-in_err-read_more-clause-refused g c =
 pub returns-then-not-branch-clause-gathered : goal.returns-then-not-branch-clause-gathered
 returns-then-not-branch-clause-gathered g c =
     let here = place_read c.loop-piece.carry.items c.deref.result.now c.loop-piece.seen c.loop-piece.place c.after-place.result c.deref.ensures.value c.loop-piece.invariant.place c.after-place.ensures in
-    gathered_more _ _ _ _ c.loop-piece.carry.items _ c.loop-piece.invariant.gathered (open_at c.loop-piece.carry.items c.after-place.result c.is_ended.result here c.is_ended.ensures c.if-is_ended.false (search rules)) c.read_more.ensures.moved
+    gathered_more _ _ _ _ c.loop-piece.carry.items _ c.loop-piece.invariant.gathered (open_at c.loop-piece.carry.items c.after-place.result c.is_ended.result here c.is_ended.ensures c.if-is_ended.false (search rules)) c.read_more.ensures.moved (omega (arith, c.read_more.ensures.little))
 
 pub loop-piece-preserved : goal.loop-piece-preserved
 loop-piece-preserved g c =
     let here = place_read c.loop-piece.carry.items c.deref.result.now c.loop-piece.seen c.loop-piece.place c.after-place.result c.deref.ensures.value c.loop-piece.invariant.place c.after-place.ensures in
     record {
-      gathered = gathered_more _ _ _ _ c.loop-piece.carry.items _ c.loop-piece.invariant.gathered (open_at c.loop-piece.carry.items c.after-place.result c.is_ended.result here c.is_ended.ensures c.if-is_ended.false (search rules)) c.read_more.ensures.moved;
+      gathered = gathered_more _ _ _ _ c.loop-piece.carry.items _ c.loop-piece.invariant.gathered (open_at c.loop-piece.carry.items c.after-place.result c.is_ended.result here c.is_ended.ensures c.if-is_ended.false (search rules)) c.read_more.ensures.moved (omega (arith, c.read_more.ensures.little));
       seen = search rules;
       place = place_kept _ _ c.loop-piece.carry.items _ c.len-seen.result c.after-place.result (search rules) here c.read_more.ensures.moved;
       later = omega (arith, c.loop-piece.invariant.later, c.read_more.ensures.later);
