@@ -6,7 +6,7 @@ use Rattle.httparse.proofs.GrammarLemmas.{request_unique}
 use Rattle.tab_http.specs.declared.messages.Message.{Message}
 use Rattle.tab_batch.specs.Parts.{requests_of}
 use Rattle.tab_batch.specs.Requests.{ending, target_of, addressed, IsRequest, IsNoRequest, AreRequests}
-use Rattle.tab_batch.specs.Refusals.{IsBatch, FirstBad, Refuses, Answer, Gives}
+use Rattle.tab_batch.specs.Refusals.{IsBatch, FirstBad, Answer, Gives}
 use Rattle.tab_batch.specs.declared.refusals.BatchRefused.{BatchRefused}
 use Rattle.tab_batch.specs.declared.refusals.BatchRefused.TheVariants.{BadMultipart, BadPart, Memory}
 

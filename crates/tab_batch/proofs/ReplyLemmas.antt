@@ -1,11 +1,11 @@
 -- The lines of a batch's reply, and the parts between them.
-use Rattle.std.proofs.Common.{◌≡◌, ℕ, zero, suc, ◌+◌, ◌-◌, ◌<◌, ◌≤◌, Bool, true, false, ◌||◌, ◌==◌, List, [], ◌∷◌, ◌++◌, length, take, drop, map, reverse, refl, sym, ap, ◌∙◌, subst, cond, arith, append-nil, append_assoc, length-append}
-use Rattle.std.specs.Prelude.{None, Some, Ok, Option, Result, codes, slice_range, is_some, option_and_then}
+use Rattle.std.proofs.Common.{◌≡◌, ℕ, ◌+◌, ◌-◌, Bool, true, false, ◌||◌, ◌==◌, List, [], ◌∷◌, ◌++◌, length, take, map, refl, sym, ap, ◌∙◌, cond, arith, append-nil, append_assoc, length-append}
+use Rattle.std.specs.Prelude.{None, Some, Ok, Option, codes, slice_range, is_some, option_and_then}
 use Rattle.std.specs.List.{flat_map, AllByRecursion}
 use Rattle.std.proofs.Math.Seq.{take-append_seam, drop-append_seam}
 use Rattle.std.proofs.lemmas.List.{reverse-append, reverse-reverse}
-use Rattle.tab_batch.specs.Lines.{Line, cons_first, cut_lines, without_end, behind_feed, behind_return, placed, lines_at, text_end}
-use Rattle.tab_batch.specs.Marks.{Block, Blocks, blocks_of, add_line, mark_of}
+use Rattle.tab_batch.specs.Lines.{Line, cons_first, cut_lines, without_end, placed, lines_at, text_end}
+use Rattle.tab_batch.specs.Marks.{Blocks, blocks_of, add_line, mark_of}
 use Rattle.tab_batch.specs.Boundaries.{boundary_of, boundary_among, pieces, unquoted}
 use Rattle.tab_batch.specs.Parts.{Found, from_first, is_nothing, is_empty, content_type, settles, under, only_part, change_set, with_request, requests_at, when_closed, body_at, spans_of, between, cut_out, requests_of}
 use Rattle.tab_batch.specs.Replies.{line_end, line, outer_boundary, inner_boundary, opening, part_head, ending, part_text, batch_text, MarksNothing, IsPlain}
@@ -13,7 +13,7 @@ use Rattle.tab_batch.proofs.PieceLemmas.{first_of_plain, only_plain}
 use Rattle.tab_batch.specs.declared.marks.Mark.{Mark}
 use Rattle.tab_batch.specs.declared.spans.Span.{Span}
 use Rattle.httparse.specs.Grammar.{trim_ows}
-use Rattle.tab_batch.specs.declared.marks.Mark.TheVariants.{Delimiter, Closing}
+use Rattle.tab_batch.specs.declared.marks.Mark.TheVariants.{Delimiter}
 
 -- ---- the lines of a reply
 

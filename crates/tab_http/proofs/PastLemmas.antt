@@ -1,12 +1,12 @@
 -- How far past a message the bytes may have come that spell it.
-use Rattle.std.proofs.Common.{◌≡◌, ℕ, ◌+◌, ◌<◌, ◌≤◌, ◌⊎◌, ⊎_elim, max, List, ◌++◌, length, take, drop, refl, sym, ap, ◌∙◌, subst, arith, append-nil, append_assoc, length-append}
+use Rattle.std.proofs.Common.{◌≡◌, ℕ, ◌<◌, ◌≤◌, ⊎_elim, max, List, ◌++◌, length, take, drop, refl, sym, ap, ◌∙◌, subst, arith, append-nil, append_assoc, length-append}
 use Rattle.std.specs.Prelude.{Option, Result, Ok, Err}
 use Rattle.std.proofs.lemmas.Bool.{cases_lt}
 use Rattle.std.proofs.lemmas.List.{take-append-le, length-drop}
 use Rattle.httparse.specs.Grammar.{RequestHead, print_request}
 use Rattle.tab_http.proofs.MessageLemmas.{body_short, body_whole, no_message, pair_of, open_spells_none}
 use Rattle.tab_http.proofs.ReadingLemmas.{head_within}
-use Rattle.tab_http.specs.Messages.{Answer, message_of, size_of_body, with_body, answer_of, Spells, behind_head, without_head, IsOpen}
+use Rattle.tab_http.specs.Messages.{message_of, size_of_body, with_body, answer_of, Spells, behind_head, without_head}
 use Rattle.tab_http.specs.Reading.{WereNeeded, none, last, TookMessage}
 use Rattle.tab_http.specs.declared.messages.Message.{Message}
 use Rattle.tab_http.specs.declared.refusals.HttpRefused.{HttpRefused}
@@ -55,7 +55,7 @@ spelled_before bytes more message after (behind_head h behind begins is) enough 
     let room : whole.count ≤ length (drop size bytes) = omega (arith, all, parts, both, left, dropped, inside, enough, length-drop size bytes) in
     let body : take whole.count behind ≡ take whole.count (drop size bytes) = ap (take whole.count) there.1 ∙ take-append-le whole.count (drop size bytes) more room in
     let answers : Ok (message, drop whole.count (drop size bytes)) ≡ answer_of h (drop size bytes) =
-        ap (λ (m : Message). Ok (m, drop whole.count (drop size bytes))) (whole.message_is ∙ ap (message_of h) body) ∙ sym (body_whole h (drop size bytes) whole.count room) ∙ sym (ap (with_body h (drop size bytes)) whole.sized) in
+    ap (λ (m : Message). Ok (m, drop whole.count (drop size bytes))) (whole.message_is ∙ ap (message_of h) body) ∙ sym (body_whole h (drop size bytes) whole.count room) ∙ sym (ap (with_body h (drop size bytes)) whole.sized) in
     (drop whole.count (drop size bytes), behind_head h (drop size bytes) (record { reads = there.0; few = begins.few; short = begins.short }) answers)
 
 by_needed : (before came : List ℕ) (message : Message) (after : List ℕ) → WereNeeded before came → Spells (before ++ came) (Ok (message, after)) → length after ≤ max (length before) 4095

@@ -19,7 +19,10 @@ mod writing;
 
 pub use fields::trim_blanks;
 pub use heads::{Head, LONGEST_HEAD};
-pub use laws::{little_is_read_past_a_message, one_answer, open_bytes_spell_no_message, same_message_before_more, some_answer};
+pub use laws::{
+    little_is_read_past_a_message, one_answer, open_bytes_spell_no_message,
+    same_message_before_more, some_answer,
+};
 pub use messages::{Header, Headers, Message, first_value};
 pub use reading::read_message;
 pub use refusals::HttpRefused;
