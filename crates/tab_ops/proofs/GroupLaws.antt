@@ -1,5 +1,5 @@
 -- What groups make of rows: item by item, and as a whole.
-use Rattle.std.proofs.Common.{◌≡◌, ℕ, zero, suc, ◌+◌, List, [], ◌∷◌, Ordering, Bool, true, false, ◌&&◌, cond, is_eq, length, get_or, refl, sym, ap, ◌∙◌, subst, arith, inl, inr}
+use Rattle.std.proofs.Common.{◌≡◌, ℕ, zero, suc, ◌+◌, List, [], ◌∷◌, Ordering, Bool, true, false, ◌&&◌, ◌||◌, cond, is_eq, length, get_or, refl, sym, ap, ◌∙◌, subst, arith, inl, inr}
 use Rattle.std.specs.Prelude.{Option, Some, None, Ok, Err, Result, All, Contains, IsFalse, IsOk, bytes_eq, nat_lt, slice_get}
 use Rattle.std.proofs.lemmas.Option.{none-some, same_Some}
 use Rattle.std.proofs.lemmas.List.{get_or-map, length-map}
@@ -13,11 +13,14 @@ use Rattle.tab_edm.specs.Entities.{EntityView}
 use Rattle.tab_rows.specs.Rows.{RowView, AreRising, row_at}
 use Rattle.tab_rows.proofs.RowLaws.{AreRising-with_row, AreRising-without_row, row_at-with_row, row_at-without_row, row_at-with_row_other, row_at-without_row_other, All-with_row, All-without_row}
 use Rattle.tab_keys.specs.TableNames.{folded}
-use Rattle.tab_keys.proofs.OrderLaws.{same_key_equivalence}
+use Rattle.tab_keys.proofs.OrderLaws.{same_key_equivalence, bytes_eq-is}
+use Rattle.std.specs.List.{list_any}
+use Rattle.std.specs.Str.{IsUtf8}
+use Rattle.std.proofs.lemmas.List.Kept.{AllPairs-cons}
 use Rattle.std.specs.Option.{option_or}
 use Rattle.tab_ops.specs.Groups.{ItemView, item_key, AreApart, first_elsewhere, first_doubled, most_items, group_refusal}
 use Rattle.tab_ops.specs.declared.groups.GroupRefused.{GroupRefused}
-use Rattle.tab_ops.specs.declared.groups.GroupRefused.TheVariants.{TooMany, MixedPartitions}
+use Rattle.tab_ops.specs.declared.groups.GroupRefused.TheVariants.{TooMany, MixedPartitions, DoubledRow}
 use Rattle.tab_ops.specs.Changes.{outcome_of, settled, unless_refused, rows_after, group_outcome, group_keys}
 use Rattle.tab_ops.specs.Laws.{row_made, IsKeptOrPut, SawRowsBefore, IsRefusedByItem}
 use Rattle.tab_ops.specs.declared.groups.OpRefused.{OpRefused}
@@ -265,10 +268,14 @@ beside_each index first (item ∷ items) h = by_test (λ k. beside_each (index +
     by_test later true false e f = let stuck = told true false e f in absurd (cc)
     by_test later false c e f = let stuck = told false c e f in absurd (cc)
 
--- the operations of a group lie in one partition
-pub in_one_partition : (first : ItemView) (items : List ItemView) → group_refusal (first ∷ items) ≡ None → All (λ item. item.pk ≡ first.pk) items
+-- the two parts of why an allowed group is not refused
+record NotRefused (items : List ItemView) (first : ItemView) : Type 0 where
+  pub together : first_elsewhere 0 first items ≡ None
+  pub single : first_doubled 0 [] items ≡ None
+
+not_refused : (first : ItemView) (items : List ItemView) → group_refusal (first ∷ items) ≡ None → NotRefused (first ∷ items) first
 unfolding group_refusal
-in_one_partition first items h = by_test (nat_lt most_items (length (first ∷ items))) refl
+not_refused first items h = by_test (nat_lt most_items (length (first ∷ items))) refl
   where
     elsewhere : Option GroupRefused
     elsewhere = first_elsewhere 0 first (first ∷ items)
@@ -280,8 +287,58 @@ in_one_partition first items h = by_test (nat_lt most_items (length (first ∷ i
     first_none None later e = refl
     first_none (Some why) later e = absurd (cc)
 
-    by_test : (b : Bool) → nat_lt most_items (length (first ∷ items)) ≡ b → All (λ item. item.pk ≡ first.pk) items
+    later_none : (r later : Option GroupRefused) → option_or r later ≡ None → later ≡ None
+    later_none None later e = e
+    later_none (Some why) later e = absurd (cc)
+
+    by_test : (b : Bool) → nat_lt most_items (length (first ∷ items)) ≡ b → NotRefused (first ∷ items) first
     by_test true e = let stuck : Some TooMany ≡ None = ap (λ b. cond b (Some TooMany) (option_or elsewhere doubled)) (sym e) ∙ h in absurd (cc)
     by_test false e =
-        let none : elsewhere ≡ None = first_none elsewhere doubled (ap (λ b. cond b (Some TooMany) (option_or elsewhere doubled)) (sym e) ∙ h) in
-        All-tail (λ item. item.pk ≡ first.pk) first items (beside_each 0 first (first ∷ items) none)
+        let both : option_or elsewhere doubled ≡ None = ap (λ b. cond b (Some TooMany) (option_or elsewhere doubled)) (sym e) ∙ h in
+        record { together = first_none elsewhere doubled both; single = later_none elsewhere doubled both }
+
+-- the operations of a group lie in one partition
+pub in_one_partition : (first : ItemView) (items : List ItemView) → group_refusal (first ∷ items) ≡ None → All (λ item. item.pk ≡ first.pk) items
+in_one_partition first items h = All-tail (λ item. item.pk ≡ first.pk) first items (beside_each 0 first (first ∷ items) (not_refused first items h).together)
+
+-- ---- rows of their own
+
+first_false : (a b : Bool) → (a || b) ≡ false → a ≡ false
+first_false false b e = refl
+first_false true b e = e
+
+second_false : (a b : Bool) → (a || b) ≡ false → b ≡ false
+second_false false b e = e
+second_false true b e = absurd (cc)
+
+-- no row key stood before, or stands twice
+record HasOwnRows (before : List (List ℕ)) (items : List ItemView) : Type 0 where
+  pub new : All (λ item. list_any (λ rk. bytes_eq rk item.rk) before ≡ false) items
+  pub apart : AreApart items
+
+own_rows : (index : ℕ) (before : List (List ℕ)) (items : List ItemView) → All (λ item. IsUtf8 item.rk) items → first_doubled index before items ≡ None → HasOwnRows before items
+own_rows index before [] texts h = record { new = All-nil (λ item. list_any (λ rk. bytes_eq rk item.rk) before ≡ false); apart = λ i j d below within. absurd (omega arith) }
+own_rows index before (item ∷ items) texts h =
+    by_test (λ k. own_rows (index + 1) (item.rk ∷ before) items (All-tail (λ item. IsUtf8 item.rk) item items texts) k) (list_any (λ rk. bytes_eq rk item.rk) before) refl
+  where
+    told : (b : Bool) → list_any (λ rk. bytes_eq rk item.rk) before ≡ b → cond b (Some (DoubledRow index)) (first_doubled (index + 1) (item.rk ∷ before) items) ≡ None
+    told b e = rw (← e) h
+
+    joined : list_any (λ rk. bytes_eq rk item.rk) before ≡ false → HasOwnRows (item.rk ∷ before) items → HasOwnRows before (item ∷ items)
+    joined e rest = record {
+      new = All-cons (λ other. list_any (λ rk. bytes_eq rk other.rk) before ≡ false) item items e
+          (All-weaker (λ other. (bytes_eq item.rk other.rk || list_any (λ rk. bytes_eq rk other.rk) before) ≡ false) (λ other. list_any (λ rk. bytes_eq rk other.rk) before ≡ false) (λ other. second_false (bytes_eq item.rk other.rk) (list_any (λ rk. bytes_eq rk other.rk) before)) items rest.new);
+      apart = AllPairs-cons (λ a b. IsFalse (is_eq (text_cmp a.rk b.rk))) item items
+          (λ k d within. sym (bytes_eq-is item.rk (get_or items k d).rk (All-head (λ item. IsUtf8 item.rk) item items texts) (All-tail (λ item. IsUtf8 item.rk) item items texts k d within))
+          ∙ first_false (bytes_eq item.rk (get_or items k d).rk) (list_any (λ rk. bytes_eq rk (get_or items k d).rk) before) (rest.new k d within))
+          rest.apart;
+    }
+
+    by_test : (first_doubled (index + 1) (item.rk ∷ before) items ≡ None → HasOwnRows (item.rk ∷ before) items) → (b : Bool) → list_any (λ rk. bytes_eq rk item.rk) before ≡ b → HasOwnRows before (item ∷ items)
+    by_test rest true e = let stuck = told true e in absurd (cc)
+    by_test rest false e = joined e (rest (told false e))
+
+-- no two operations of a group have one row key
+pub rows_of_their_own : (items : List ItemView) → All (λ item. IsUtf8 item.rk) items → group_refusal items ≡ None → AreApart items
+rows_of_their_own [] texts h = λ i j d below within. absurd (omega arith)
+rows_of_their_own (first ∷ items) texts h = (own_rows 0 [] (first ∷ items) texts (not_refused first items h).single).apart

@@ -1,5 +1,5 @@
 //! Laws of groups, each the contract of a function that does nothing.
-ghost use Rattle.std.specs.Prelude.{◌≡◌, ℕ, List, ◌∷◌, All, IsFalse, None, Some, Ok, Err, IsOk, slice_get};
+ghost use Rattle.std.specs.Prelude.{◌≡◌, ℕ, List, ◌∷◌, All, IsFalse, None, Some, Ok, Err, IsOk, IsUtf8, slice_get};
 ghost use Rattle.tab_keys.specs.Order.{same_key};
 ghost use Rattle.tab_keys.specs.declared.keys.Key.{Key};
 ghost use Rattle.tab_rows.specs.Rows.{RowView, AreRising, row_at};
@@ -52,4 +52,9 @@ pub fn items_see_the_rows_before_their_group()
 pub fn groups_act_in_one_partition()
     ensures { (first : ItemView) (items : List ItemView) → group_refusal (first ∷ items) ≡ None
         → All (λ item. item.pk ≡ first.pk) items }
+{}
+
+/// No two operations of a group have one row key, and so no two of its keys are one.
+pub fn groups_have_rows_of_their_own()
+    ensures { (items : List ItemView) → All (λ item. IsUtf8 item.rk) items → group_refusal items ≡ None → AreApart items }
 {}
