@@ -1,6 +1,3 @@
-use Rattle.std.proofs.Common.{◌≡◌, subst, sym, refl}
-use Rattle.std.specs.Prelude.{All, IsTrue}
-use Rattle.tab_keys.specs.Spans.{Interval, has}
 use Rattle.tab_page.proofs.TestSpans.{has_all, all_has}
 use Rattle.tab_page.proofs.tests.paged.Goals as goal
 
