@@ -1,5 +1,5 @@
 -- What every history over the first world gives.
-use Rattle.std.proofs.Common.{◌≡◌, ℕ, List, [], ◌∷◌, zero, suc, get_or, arith, ◌<◌}
+use Rattle.std.proofs.Common.{ℕ, List, zero, suc, get_or, arith, ◌<◌}
 use Rattle.tab_history.specs.World.{Named, IsWorld}
 use Rattle.tab_history.specs.Legality.{Legal}
 use Rattle.tab_history.specs.Followed.{FollowedWell, FollowedStill}

@@ -1,5 +1,5 @@
 -- The one range has all keys.
-use Rattle.std.proofs.Common.{◌≡◌, ℕ, List, IsTrue, refl, ap, sym, subst}
+use Rattle.std.proofs.Common.{◌≡◌, List, IsTrue, refl, sym, subst}
 use Rattle.std.specs.List.{All}
 use Rattle.tab_keys.specs.Spans.{Interval, has}
 use Rattle.tab_keys.specs.declared.keys.Key.{Key}

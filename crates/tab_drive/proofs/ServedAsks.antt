@@ -1,6 +1,6 @@
 -- What a decided request asks is served.
-use Rattle.std.proofs.Common.{◌≡◌, ℕ, ◌⊎◌, List, [], ◌∷◌, length, Bool, true, false, Option, Some, None, Result, Ok, Err, cond, refl, sym, ap, ◌∙◌, subst, inl, inr, nat_eq}
-use Rattle.std.specs.Prelude.{option_and_then, codes}
+use Rattle.std.proofs.Common.{◌≡◌, ℕ, List, Bool, true, false, Option, Some, None, Result, Ok, Err, cond, refl, sym, ap, subst, inl, inr}
+use Rattle.std.specs.Prelude.{option_and_then}
 use Rattle.httparse.specs.Grammar.{RequestHead}
 use Rattle.tab_ops.specs.declared.ops.Op.{Op}
 use Rattle.tab_ops.specs.declared.ops.Op.TheVariants.{Insert, Delete}
@@ -11,7 +11,7 @@ use Rattle.tab_service.specs.Preferences.{format_for, preference_for}
 use Rattle.tab_service.specs.Conditions.{condition_for, needed_condition}
 use Rattle.tab_service.specs.Refusals.{refusal_text}
 use Rattle.tab_service.specs.Requests.{unless_refused, page_request, row_request, change_request, row_keys, query_options, query_select, read_body, given_keys, entity_for, insert_from, op_for, decided_page, decided_row, decided_insert, decided_write, decided_delete}
-use Rattle.tab_service.specs.Decisions.{answered, is_plain_read, is_plain_insert, is_plain_write, is_plain_delete, decided_on_rows, written_on_row, decided_on_row, decided_on, decided_by, decision, IsDecision}
+use Rattle.tab_service.specs.Decisions.{answered, is_plain_read, is_plain_insert, is_plain_write, is_plain_delete, decided_on_rows, written_on_row, decided_on_row, decided_on, decision, IsDecision}
 use Rattle.tab_service.specs.declared.decisions.Decided.{Decided}
 use Rattle.tab_service.specs.declared.decisions.Decided.TheVariants.{Go, No}
 use Rattle.tab_service.specs.declared.forms.Prefer.{Prefer}

@@ -7,11 +7,11 @@ use Rattle.tab_edm.specs.declared.TheConstants.{GREATEST}
 use Rattle.tab_rows.specs.Rows.{RowView, row_at}
 use Rattle.tab_ops.specs.Groups.{ItemView}
 use Rattle.tab_ops.specs.declared.plans.Changes.{Changes}
-use Rattle.tab_history.specs.declared.entries.Denied.TheVariants.{NotFound, Op, TimeSpent, Memory}
+use Rattle.tab_history.specs.declared.entries.Denied.TheVariants.{Memory}
 use Rattle.tab_history.specs.declared.exchanges.Ask.{Ask}
 use Rattle.tab_history.specs.declared.exchanges.Ask.TheVariants.{Get as Getting, Page as Listing, Change as Writing}
 use Rattle.tab_history.specs.declared.exchanges.Reply.{Reply}
-use Rattle.tab_history.specs.declared.exchanges.Reply.TheVariants.{Found, Listed, Changed, Denied as Refusal}
+use Rattle.tab_history.specs.declared.exchanges.Reply.TheVariants.{Denied as Refusal}
 use Rattle.tab_service.specs.declared.forms.Request.{Request}
 use Rattle.tab_service.specs.Decisions.{IsDecision}
 use Rattle.tab_service.specs.declared.decisions.Decided.{Decided}

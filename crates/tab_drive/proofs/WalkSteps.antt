@@ -1,5 +1,5 @@
 -- What a decided request adds to a walk.
-use Rattle.std.proofs.Common.{◌≡◌, ℕ, ◌+◌, ◌≤◌, ◌<◌, ◌⊎◌, max, List, [], ◌∷◌, refl, sym, ap, ◌∙◌, subst, arith, inl, inr}
+use Rattle.std.proofs.Common.{◌≡◌, ℕ, ◌+◌, ◌≤◌, ◌<◌, max, List, [], ◌∷◌, refl, sym, ap, subst, arith, inl, inr}
 use Rattle.std.specs.Prelude.{codes, Option, Some, None, Result, Ok, Err}
 use Rattle.tab_keys.specs.TableNames.{folded}
 use Rattle.tab_keys.specs.declared.bounds.Bound.{Bound}
@@ -13,18 +13,18 @@ use Rattle.tab_ops.specs.declared.groups.OpRefused.{OpRefused}
 use Rattle.tab_ops.specs.declared.plans.Changes.{Changes}
 use Rattle.tab_history.specs.World.{table_of, floor_of, IsNextTick, MayHaveTick}
 use Rattle.tab_history.specs.Legality.{Legal, after_all}
-use Rattle.tab_history.specs.declared.entries.Denied.TheVariants.{NotFound, Op, TimeSpent, Memory}
+use Rattle.tab_history.specs.declared.entries.Denied.TheVariants.{Op, TimeSpent, Memory}
 use Rattle.tab_history.specs.declared.exchanges.Ask.{Ask}
 use Rattle.tab_history.specs.declared.exchanges.Ask.TheVariants.{Get as Getting, Page as Listing, Change as Writing}
 use Rattle.tab_history.specs.declared.exchanges.Reply.{Reply}
-use Rattle.tab_history.specs.declared.exchanges.Reply.TheVariants.{Found, Listed, Changed, Denied as Refusal}
+use Rattle.tab_history.specs.declared.exchanges.Reply.TheVariants.{Listed, Changed, Denied as Refusal}
 use Rattle.tab_history.proofs.ChangeLaws.{may_have_next, next_tick-raised, table_for-first}
 use Rattle.tab_page.specs.Pages.{page_of, page_below, start_key}
 use Rattle.tab_page.proofs.PageLaws.{end_above-first}
 use Rattle.tab_page.specs.declared.pages.Options.{Options}
 use Rattle.tab_drive.specs.Walk.{Walk, first_walk, first_world, group_name, IsAnswer, reply_of, next_tick_after, walk_after}
 use Rattle.tab_drive.specs.declared.schedule.Scheduled.{Scheduled}
-use Rattle.tab_drive.specs.Sessions.{goods, IsServing, IsServedAsk, found_or_not, Makes, Refuses, Spends, Lacks, IsDecided, entry_of, entries_for, rows_then, next_then}
+use Rattle.tab_drive.specs.Sessions.{goods, IsServing, IsServedAsk, found_or_not, IsDecided, entry_of, entries_for, rows_then, next_then}
 
 -- what holds of a walk after a decided request
 pub record Adds (walk : Walk) (what : Ask) (reply : Reply) (changes : Option Changes) : Type 0 where

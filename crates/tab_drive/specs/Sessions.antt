@@ -1,5 +1,5 @@
 -- What a session keeps of a walk, what a request comes to, and what one step does.
-use Rattle.std.specs.Prelude.{◌≡◌, ℕ, ◌+◌, ◌<◌, ◌≤◌, ◌⊎◌, max, List, [], ◌∷◌, ◌++◌, length, codes, Option, Some, None, Ok, Err, ⊤}
+use Rattle.std.specs.Prelude.{◌≡◌, ℕ, ◌+◌, ◌<◌, ◌≤◌, ◌⊎◌, max, List, [], ◌∷◌, ◌++◌, codes, Option, Some, None, Ok, Err}
 use Rattle.tab_keys.specs.declared.keys.Key.{Key}
 use Rattle.tab_keys.specs.declared.bounds.Bound.TheVariants.{At, End}
 use Rattle.tab_edm.specs.declared.TheConstants.{GREATEST}

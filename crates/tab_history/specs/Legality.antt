@@ -1,5 +1,5 @@
 -- Which histories are those of one ordered map.
-use Rattle.std.specs.Prelude.{◌≡◌, ℕ, List, [], ◌∷◌, ◌==◌, find, All, AllPairs, IsTrue, Option, Some, None, option_and_then, Result, Ok, Err, ⊤}
+use Rattle.std.specs.Prelude.{◌≡◌, ℕ, List, [], ◌∷◌, ◌==◌, find, All, AllPairs, IsTrue, Option, Some, None, option_and_then, Ok, Err, ⊤}
 use Rattle.std.specs.Result.{result_unwrap_or}
 use Rattle.tab_keys.specs.Order.{bound_lt}
 use Rattle.tab_keys.specs.declared.bounds.Bound.{Bound}

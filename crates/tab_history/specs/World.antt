@@ -1,5 +1,5 @@
 -- The world: one ordered map of rows, the tables' names, and the floor of each key.
-use Rattle.std.specs.Prelude.{◌≡◌, ℕ, ◌+◌, ◌<◌, ◌≤◌, ◌⊎◌, List, [], ◌∷◌, ◌++◌, map, find, All, AllPairs, IsTrue, IsFalse, ◌==◌, bytes_eq, Option, Some, None, option_map, unwrap_or}
+use Rattle.std.specs.Prelude.{◌≡◌, ℕ, ◌+◌, ◌<◌, ◌≤◌, ◌⊎◌, List, ◌++◌, map, find, All, AllPairs, IsTrue, IsFalse, ◌==◌, bytes_eq, Option, option_map, unwrap_or}
 use Rattle.std.specs.Ordering.{is_lt}
 use Rattle.tab_keys.specs.Order.{same_key, name_cmp}
 use Rattle.tab_keys.specs.TableNames.{folded}
