@@ -1,5 +1,5 @@
 -- What an insert makes of the world.
-use Rattle.std.proofs.Common.{◌≡◌, ℕ, ◌+◌, ◌≤◌, ◌<◌, ◌⊎◌, max, get_or, cond, eq-eqb, List, [], ◌∷◌, Bool, true, false, refl, arith, inl, inr}
+use Rattle.std.proofs.Common.{◌≡◌, ℕ, ◌+◌, ◌≤◌, ◌<◌, ◌⊎◌, max, get_or, cond, eq-eqb, List, [], ◌∷◌, ◌++◌, map, Bool, true, false, refl, arith, inl, inr}
 use Rattle.std.specs.Prelude.{Option, Some, None, Ok, Err, find, option_map, unwrap_or, if◌then◌else◌}
 use Rattle.std.proofs.lemmas.Bool.{cases_lt}
 use Rattle.std.specs.Cmp.{tied_itself}
@@ -48,25 +48,45 @@ may_have_next floors next now keys is in_time = record {
   in_time = in_time;
 }
 
--- the floor of a key after a change
-floor_of-raised : (floors : Floors) (tick : ℕ) (key other : Key) → floor_of (raised floors (key ∷ []) tick) other ≡ (if same_key key other then tick + 1 else floor_of floors other)
+-- the floor of a key after a change of one key and of others
+floor_of-raised : (floors : Floors) (tick : ℕ) (key : Key) (keys : List Key) (other : Key)
+    → floor_of (raised floors (key ∷ keys) tick) other ≡ (if same_key key other then tick + 1 else floor_of (raised floors keys tick) other)
 unfolding floor_of raised
-floor_of-raised floors tick key other = by_test (same_key key other)
+floor_of-raised floors tick key keys other = by_test (same_key key other)
   where
-    by_test : (b : Bool) → unwrap_or (option_map (λ (change : Key × ℕ). change.1) (cond b (Some (key, tick + 1)) (find (λ change. same_key change.0 other) floors.later)))
-        (unwrap_or (option_map (λ part. part.1) (find (λ part. has part.0 other) floors.opening)) 0) ≡ (if b then tick + 1 else floor_of floors other)
+    later : List (Key × ℕ)
+    later = map (λ own. (own, tick + 1)) keys ++ floors.later
+
+    by_test : (b : Bool) → unwrap_or (option_map (λ (change : Key × ℕ). change.1) (cond b (Some (key, tick + 1)) (find (λ change. same_key change.0 other) later)))
+        (unwrap_or (option_map (λ part. part.1) (find (λ part. has part.0 other) floors.opening)) 0)
+        ≡ (if b then tick + 1
+        else unwrap_or (option_map (λ (change : Key × ℕ). change.1) (find (λ change. same_key change.0 other) later))
+        (unwrap_or (option_map (λ part. part.1) (find (λ part. has part.0 other) floors.opening)) 0))
     by_test true = refl
     by_test false = refl
+
+floor_of-raised_none : (floors : Floors) (tick : ℕ) (other : Key) → floor_of (raised floors [] tick) other ≡ floor_of floors other
+unfolding floor_of raised
+floor_of-raised_none floors tick other = refl
 
 chosen_below : (b : Bool) (x y top : ℕ) → x ≤ top → y ≤ top → (if b then x else y) ≤ top
 chosen_below true x y top h k = h
 chosen_below false x y top h k = k
 
+-- no floor is above one more than the tick of a change
+raised_below : (floors : Floors) (next tick : ℕ) (keys : List Key) (other : Key) → IsNextTick floors next → next ≤ tick → floor_of (raised floors keys tick) other ≤ tick + 1
+raised_below floors next tick [] other is later =
+    let below : floor_of floors other ≤ next = is.above other in
+    rw (floor_of-raised_none floors tick other) (omega arith)
+raised_below floors next tick (key ∷ keys) other is later =
+    let rest : floor_of (raised floors keys tick) other ≤ tick + 1 = raised_below floors next tick keys other is later in
+    rw (floor_of-raised floors tick key keys other) (chosen_below (same_key key other) (tick + 1) (floor_of (raised floors keys tick) other) (tick + 1) (omega arith) rest)
+
 -- after a change with a tick the one number is one more
-pub next_tick-raised : (floors : Floors) (next tick : ℕ) (key : Key) → IsNextTick floors next → next ≤ tick → IsNextTick (raised floors (key ∷ []) tick) (tick + 1)
-next_tick-raised floors next tick key is later = record {
-  above = λ other. rw (floor_of-raised floors tick key other) (chosen_below (same_key key other) (tick + 1) (floor_of floors other) (tick + 1) (omega arith) (let below : floor_of floors other ≤ next = is.above other in omega arith));
-  reached = inr (key, rw (floor_of-raised floors tick key key, same_key-refl key) (omega arith));
+pub next_tick-raised : (floors : Floors) (next tick : ℕ) (key : Key) (keys : List Key) → IsNextTick floors next → next ≤ tick → IsNextTick (raised floors (key ∷ keys) tick) (tick + 1)
+next_tick-raised floors next tick key keys is later = record {
+  above = λ other. raised_below floors next tick (key ∷ keys) other is later;
+  reached = inr (key, rw (floor_of-raised floors tick key keys key, same_key-refl key) (omega arith));
 }
 
 -- a look-up that was just made is the last one

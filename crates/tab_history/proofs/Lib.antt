@@ -1,3 +1,4 @@
+pub mod NameLaws
 pub mod HistoryLaws
 pub mod ChangeLaws
 pub mod GroupLaws
@@ -6,3 +7,5 @@ pub mod TickLaws
 pub mod StillLaws
 pub mod ExampleLaws
 pub mod WorldLaws
+pub mod NumberLaws
+pub mod TablesExampleLaws

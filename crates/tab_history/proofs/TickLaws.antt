@@ -23,7 +23,7 @@ use Rattle.tab_history.specs.Followed.{Spares, IsUnchanged}
 use Rattle.tab_history.specs.Ticks.{Changes, TicksRise, TicksTellRows}
 use Rattle.tab_history.specs.declared.entries.Entry.{Entry}
 use Rattle.tab_history.specs.declared.entries.Doubt.{Doubt}
-use Rattle.tab_history.specs.declared.entries.Doubt.TheVariants.{Change as Changed}
+use Rattle.tab_history.specs.declared.entries.Doubt.TheVariants.{Change as Changed, Create as Created, Drop as Dropped}
 use Rattle.tab_history.proofs.GroupLaws.{rows_after-keep, group-all, settled-other, err_ok}
 use Rattle.tab_history.proofs.FollowedLaws.{row_at-found}
 use Rattle.tab_history.proofs.HistoryLaws.{Acts, allowed_acts, kept, after_all-append, Legal-parts, unchanged_after}
@@ -110,6 +110,8 @@ acted-floor key n world (Changed table group tick) a h = subst (λ floor. n ≤ 
     by_test : (t : Bool) → changed_by key (group_keys table group) ≡ t → n ≤ cond t (tick + 1) (floor_of world.floors key)
     by_test true e = let below : floor_of world.floors key ≤ tick = low e in omega arith
     by_test false e = h
+acted-floor key n world (Created name table) a h = h
+acted-floor key n world (Dropped name) a h = h
 
 -- no floor falls
 pub floor_after : (key : Key) (state : State) (entries : List Entry) → Legal state entries → floor_of state.world.floors key ≤ floor_of (after_all state entries).world.floors key
@@ -122,6 +124,8 @@ changed-floor key tick world (Changed table group own) a changes = (
       (any_holds (λ other. floor_of world.floors other ≤ own) key (λ other same k. subst (λ floor. floor ≤ own) (floor_of-alike world.floors other key same) k) (group_keys table group) a.1 changes.1),
   floor_of-raised_all world.floors (group_keys table group) own key ∙ (ap (λ t. cond t (own + 1) (floor_of world.floors key)) changes.1 ∙ ap (λ n. n + 1) changes.0),
 )
+changed-floor key tick world (Created name table) a changes = absurd changes
+changed-floor key tick world (Dropped name) a changes = absurd changes
 
 entry-floor : (key : Key) (tick : ℕ) (world : World) (operation : Option Doubt) → IfSome operation (Acts world) → IsSomeAnd operation (Changes key tick) → (floor_of world.floors key ≤ tick) × (floor_of (world_after world operation).floors key ≡ tick + 1)
 entry-floor key tick world None a changes = absurd changes
@@ -161,6 +165,8 @@ acted-below world (Changed table group tick) a h =
 
     old : (key : Key) (n : ℕ) → (n + 1 ≤ floor_of world.floors key → n + 1 ≤ floor_of (raised world.floors (group_keys table group) tick) key) → n < floor_of world.floors key → n < floor_of (raised world.floors (group_keys table group) tick) key
     old key n rises k = let risen : n + 1 ≤ floor_of (raised world.floors (group_keys table group) tick) key = rises (omega arith) in omega arith
+acted-below world (Created name table) a h = h
+acted-below world (Dropped name) a h = h
 
 pub ticks_below_after : (state : State) (entries : List Entry) → Legal state entries → All (λ row. row.tick < floor_of state.world.floors row.key) state.world.rows → All (λ row. row.tick < floor_of (after_all state entries).world.floors row.key) (after_all state entries).world.rows
 ticks_below_after = kept (λ world. All (λ row. row.tick < floor_of world.floors row.key) world.rows) acted-below
@@ -209,6 +215,8 @@ group-tick key table tick (item ∷ items) index rows later changes e =
 operation_tells : (key : Key) (world : World) (operation : Option Doubt) → IfSome operation (Acts world)
     → IfSome operation (Spares key) ⊎ ((row : RowView) → row_at (world_after world operation).rows key ≡ Some row → floor_of world.floors key ≤ row.tick)
 operation_tells key world None a = inl tt
+operation_tells key world (Some (Created name table)) a = inl tt
+operation_tells key world (Some (Dropped name)) a = inl tt
 operation_tells key world (Some (Changed table group tick)) a = by_test (changed_by key (group_keys table group)) refl
   where
     by_test : (t : Bool) → changed_by key (group_keys table group) ≡ t

@@ -1,8 +1,10 @@
 -- A legal history leads from a world to a world.
-use Rattle.std.proofs.Common.{◌≡◌, ℕ, ◌<◌, List, [], ◌∷◌, Bool, true, false, cond, ◌==◌, map, All, sym, subst}
-use Rattle.std.specs.Prelude.{Option, Some, Result, Ok, Err, IfSome, find, option_map, option_and_then, bytes_eq}
+use Rattle.std.proofs.Common.{◌≡◌, ℕ, ◌+◌, ◌<◌, List, [], ◌∷◌, Bool, true, false, cond, ◌==◌, map, not, All, refl, sym, subst, arith}
+use Rattle.std.specs.Prelude.{Option, Some, None, IsFalse, Result, Ok, Err, IfSome, find, option_map, option_and_then, bytes_eq}
 use Rattle.std.specs.Result.{result_unwrap_or}
-use Rattle.std.proofs.lemmas.List.Elements.{All-nil, All-cons, All-head, All-tail}
+use Rattle.std.proofs.lemmas.List.Elements.{All-nil, All-cons, All-head, All-tail, All-filter, All-weaker}
+use Rattle.std.proofs.lemmas.List.Kept.{AllPairs-filter}
+use Rattle.std.proofs.lemmas.Bool.{eqb-true}
 use Rattle.std.proofs.lemmas.Option.{none-some}
 use Rattle.tab_keys.specs.TableNames.{folded}
 use Rattle.tab_keys.specs.declared.keys.Key.{Key}
@@ -10,13 +12,14 @@ use Rattle.tab_edm.specs.Entities.{EntityView}
 use Rattle.tab_rows.specs.Rows.{RowView}
 use Rattle.tab_ops.specs.Groups.{ItemView, item_key}
 use Rattle.tab_ops.specs.declared.groups.OpRefused.{OpRefused}
-use Rattle.tab_history.specs.World.{World, Named, IsWorld, table_of}
+use Rattle.tab_history.specs.World.{World, Named, IsWorld, table_of, without_name}
 use Rattle.tab_history.specs.Legality.{State, acted, after, after_all, table_for, Allows, Legal}
 use Rattle.tab_history.specs.Kept.{HasTablesBelow}
 use Rattle.tab_history.specs.declared.entries.Entry.{Entry}
-use Rattle.tab_history.specs.declared.entries.Entry.TheVariants.{Bounds, Resolve, Get, Page, Change, Denied}
-use Rattle.tab_history.specs.declared.entries.Doubt.TheVariants.{Change as Changed}
+use Rattle.tab_history.specs.declared.entries.Entry.TheVariants.{Bounds, Resolve, Get, Page, Change, Create, Drop, List as Listing, Denied}
+use Rattle.tab_history.specs.declared.entries.Doubt.TheVariants.{Change as Changed, Create as Created, Drop as Dropped}
 use Rattle.tab_history.proofs.GroupLaws.{group-all}
+use Rattle.tab_history.proofs.NameLaws.{Below, is_named, All-with_name, AllPairs-with_name, rising-with_name}
 use Rattle.tab_history.proofs.HistoryLaws.{Acts, allowed_acts, acted-rising}
 use Rattle.tab_history.proofs.TickLaws.{acted-below}
 
@@ -59,6 +62,83 @@ change_keeps world table tick group a below h = record {
     keys_below [] = All-nil (λ (key : Key). (entity : EntityView) → key.table < world.next_table)
     keys_below (item ∷ items) = All-cons (λ (key : Key). (entity : EntityView) → key.table < world.next_table) (item_key table item) (map (item_key table) items) (λ entity. below) (keys_below items)
 
+-- ---- names
+
+-- two tables' numbers differ
+abbrev Differ : Named → Named → Type 0
+Differ a b = IsFalse (a.table == b.table)
+
+apart : (a b : ℕ) → (a ≡ b → ⊥) → (a == b) ≡ false
+apart a b differ = by_test (a == b) refl
+  where
+    by_test : (t : Bool) → (a == b) ≡ t → (a == b) ≡ false
+    by_test true e = absurd (differ (eqb-true a b e))
+    by_test false e = e
+
+-- a table with the next number keeps a world
+create_keeps : (world : World) (name : List ℕ) (table : ℕ) → Acts world (Created name table) → IsWorld world → IsWorld (acted world (Created name table))
+create_keeps world name table a h = record {
+  names_rise = rising-with_name world.names named a.0 h.names_rise;
+  numbers_differ =
+      AllPairs-with_name Differ world.names named h.numbers_differ
+      (All-weaker Given (Differ named) (λ other k. apart table other.table (below_differ other.table k)) world.names h.names_below)
+      (All-weaker Given (λ other. Differ other named) (λ other k. apart other.table table (λ e. below_differ other.table k (sym e))) world.names h.names_below);
+  names_below =
+      All-with_name (λ other. other.table < table + 1) world.names named
+      (All-weaker Given (λ other. other.table < table + 1) (λ other k. still_below other.table k) world.names h.names_below) (omega arith);
+  rows_rise = h.rows_rise;
+  rows_below = All-weaker (λ row. row.key.table < world.next_table) (λ row. row.key.table < table + 1) (λ row k. still_below row.key.table k) world.rows h.rows_below;
+  ticks_below = h.ticks_below;
+}
+  where
+    named : Named
+    named = record { spelling = name; table = table }
+
+    Given : Named → Type 0
+    Given other = other.table < world.next_table
+
+    next : table ≡ world.next_table
+    next = a.1
+
+    below_differ : (other : ℕ) → other < world.next_table → table ≡ other → ⊥
+    below_differ other k e = omega (arith, next, k, e)
+
+    still_below : (other : ℕ) → other < world.next_table → other < table + 1
+    still_below other k = omega (arith, next, k)
+
+-- so does a table that is dropped
+drop_keeps : (world : World) (name : List ℕ) → IsWorld world → IsWorld (acted world (Dropped name))
+unfolding without_name
+drop_keeps world name h = record {
+  names_rise = AllPairs-filter Below (λ named. not (is_named name named)) world.names h.names_rise;
+  numbers_differ = AllPairs-filter Differ (λ named. not (is_named name named)) world.names h.numbers_differ;
+  names_below = All-filter (λ named. not (is_named name named)) (λ named. named.table < world.next_table) world.names h.names_below;
+  rows_rise = h.rows_rise;
+  rows_below = h.rows_below;
+  ticks_below = h.ticks_below;
+}
+
+-- the tables that requests were told of stay below the next number
+told_stays : (tables : List (ℕ × Option ℕ)) (next later : ℕ) → next < later → All (λ last. IfSome last.1 (λ told. told < next)) tables → All (λ last. IfSome last.1 (λ told. told < later)) tables
+told_stays tables next later rises h = All-weaker (λ (last : ℕ × Option ℕ). IfSome last.1 (λ told. told < next)) (λ (last : ℕ × Option ℕ). IfSome last.1 (λ told. told < later)) (λ last. by_told last.1) tables h
+  where
+    by_told : (told : Option ℕ) → IfSome told (λ number. number < next) → IfSome told (λ number. number < later)
+    by_told (Some number) k = let below : number < next = k in omega (arith, rises, below)
+    by_told None k = tt
+
+-- ---- entries
+
+create_stays : (state : State) (ask : ℕ) (name : List ℕ) (result : Option ℕ) → Allows state (Create ask name result) → IsWorld state.world → HasTablesBelow state
+    → IsWorld (after state (Create ask name result)).world × HasTablesBelow (after state (Create ask name result))
+create_stays state ask name (Some table) allowed world told =
+    (create_keeps state.world name table allowed world, told_stays state.tables state.world.next_table (table + 1) (let next : table ≡ state.world.next_table = allowed.1 in omega (arith, next)) told)
+create_stays state ask name None allowed world told = (world, told)
+
+drop_stays : (state : State) (ask : ℕ) (name : List ℕ) (stood : Bool) → IsWorld state.world → HasTablesBelow state
+    → IsWorld (after state (Drop ask name stood)).world × HasTablesBelow (after state (Drop ask name stood))
+drop_stays state ask name true world told = (drop_keeps state.world name world, told)
+drop_stays state ask name false world told = (world, told)
+
 change_stays : (state : State) (ask now table : ℕ) (group : List ItemView) (result : Result ℕ OpRefused) → Allows state (Change ask now table group result) → IsWorld state.world → HasTablesBelow state
     → IsWorld (after state (Change ask now table group result)).world × HasTablesBelow (after state (Change ask now table group result))
 change_stays state ask now table group (Ok tick) allowed world told =
@@ -75,6 +155,9 @@ stays state (Resolve ask name table) allowed world told = (
 stays state (Get ask table pk rk found) allowed world told = (world, told)
 stays state (Page ask table options page) allowed world told = (world, told)
 stays state (Change ask now table group result) allowed world told = change_stays state ask now table group result allowed world told
+stays state (Create ask name result) allowed world told = create_stays state ask name result allowed world told
+stays state (Drop ask name stood) allowed world told = drop_stays state ask name stood world told
+stays state (Listing ask from top names next) allowed world told = (world, told)
 stays state (Denied ask why) allowed world told = (world, told)
 
 pub worlds_stay : (opening : State) (history : List Entry) → IsWorld opening.world → HasTablesBelow opening → Legal opening history → IsWorld (after_all opening history).world × HasTablesBelow (after_all opening history)

@@ -1,5 +1,5 @@
 -- Queries that are followed to their end, page by page, and what their pages give together.
-use Rattle.std.specs.Prelude.{◌≡◌, ℕ, ◌+◌, ◌/◌, ◌<◌, ◌≤◌, List, [], ◌∷◌, ◌++◌, length, filter, Bool, false, not, ◌&&◌, ◌==◌, All, AllPairs, Contains, IsTrue, IfSome, Some, None, unwrap_or}
+use Rattle.std.specs.Prelude.{◌≡◌, ℕ, ◌+◌, ◌/◌, ◌<◌, ◌≤◌, List, [], ◌∷◌, ◌++◌, length, filter, Bool, false, not, ◌&&◌, ◌==◌, All, AllPairs, Contains, IsTrue, IfSome, Some, None, unwrap_or, bytes_eq, ⊤}
 use Rattle.std.specs.List.{AllByRecursion}
 use Rattle.std.specs.Ordering.{ordering_then, is_lt}
 use Rattle.tab_keys.specs.Order.{text_cmp, key_lt, same_key}
@@ -16,7 +16,7 @@ use Rattle.tab_history.specs.Legality.{State, accepted, after, after_all}
 use Rattle.tab_history.specs.declared.entries.Entry.{Entry}
 use Rattle.tab_history.specs.declared.entries.Entry.TheVariants.{Resolve, Page as Paged}
 use Rattle.tab_history.specs.declared.entries.Doubt.{Doubt}
-use Rattle.tab_history.specs.declared.entries.Doubt.TheVariants.{Change as Changed}
+use Rattle.tab_history.specs.declared.entries.Doubt.TheVariants.{Change as Changed, Create as Created, Drop as Dropped}
 
 -- ---- a followed query and its entries
 
@@ -93,6 +93,8 @@ at_first state query = after_all state (resolve_of query.first ∷ query.waiting
 -- an operation leaves the row of a key as it is
 abbrev pub Spares : Key → Doubt → Type 0
 Spares key (Changed table group tick) = All (λ other. same_key other key ≡ false) (group_keys table group)
+Spares key (Created name table) = ⊤
+Spares key (Dropped name) = ⊤
 
 -- no accepted operation changes the row of the key
 abbrev pub IsUnchanged : Key → List Entry → Type 0
@@ -101,6 +103,8 @@ IsUnchanged key entries = AllByRecursion (λ entry. IfSome (accepted entry) (Spa
 -- an operation leaves a key under a table's name as it is: the row stays, and so does the name
 abbrev pub Leaves : Key → List ℕ → Doubt → Type 0
 Leaves key name (Changed table group tick) = Spares key (Changed table group tick)
+Leaves key name (Created own table) = bytes_eq (folded own) (folded name) ≡ false
+Leaves key name (Dropped own) = bytes_eq (folded own) (folded name) ≡ false
 
 -- no accepted operation writes the key under the table's name
 abbrev pub IsUnwritten : Key → List ℕ → List Entry → Type 0

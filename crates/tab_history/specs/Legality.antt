@@ -1,19 +1,19 @@
 -- Which histories are those of one ordered map.
-use Rattle.std.specs.Prelude.{◌≡◌, ℕ, List, [], ◌∷◌, ◌==◌, find, All, AllPairs, IsTrue, Option, Some, None, option_and_then, Ok, Err, ⊤}
+use Rattle.std.specs.Prelude.{◌≡◌, ℕ, List, [], ◌∷◌, ◌+◌, ◌==◌, true, false, find, take, slice_get, All, AllPairs, IsTrue, Option, Some, None, is_some, option_and_then, Ok, Err, ⊤}
 use Rattle.std.specs.Result.{result_unwrap_or}
 use Rattle.tab_keys.specs.Order.{bound_lt}
 use Rattle.tab_keys.specs.declared.bounds.Bound.{Bound}
 use Rattle.tab_keys.specs.declared.bounds.Bound.TheVariants.{At, End}
 use Rattle.tab_rows.specs.Rows.{RowView, row_at}
-use Rattle.tab_history.specs.World.{World, table_of, raised, MayHaveTick}
+use Rattle.tab_history.specs.World.{World, table_of, with_name, without_name, names_from, raised, MayHaveTick}
 use Rattle.tab_ops.specs.Changes.{group_outcome, group_keys}
 use Rattle.tab_page.specs.Pages.{page_of}
 use Rattle.tab_history.specs.declared.entries.Entry.{Entry}
-use Rattle.tab_history.specs.declared.entries.Entry.TheVariants.{Bounds, Resolve, Get, Page, Change, Denied}
+use Rattle.tab_history.specs.declared.entries.Entry.TheVariants.{Bounds, Resolve, Get, Page, Change, Create, Drop, List as Listing, Denied}
 use Rattle.tab_history.specs.declared.entries.Denied.{Denied as Why}
-use Rattle.tab_history.specs.declared.entries.Denied.TheVariants.{NotFound, Op, TimeSpent, Memory}
+use Rattle.tab_history.specs.declared.entries.Denied.TheVariants.{NoTable, TableThere, NotFound, Op, TimeSpent, IdsSpent, Memory}
 use Rattle.tab_history.specs.declared.entries.Doubt.{Doubt}
-use Rattle.tab_history.specs.declared.entries.Doubt.TheVariants.{Change as Changed}
+use Rattle.tab_history.specs.declared.entries.Doubt.TheVariants.{Change as Changed, Create as Created, Drop as Dropped}
 
 -- what a history has come to: the world, the bounds in force, the table that each request's last look-up gave, the
 -- last one first, and the operations of which it is open whether they stand
@@ -35,12 +35,19 @@ accepted (Get ask table pk rk found) = None
 accepted (Page ask table options page) = None
 accepted (Change ask now table group (Ok tick)) = Some (Changed table group tick)
 accepted (Change ask now table group (Err refusal)) = None
+accepted (Create ask name (Some table)) = Some (Created name table)
+accepted (Create ask name None) = None
+accepted (Drop ask name true) = Some (Dropped name)
+accepted (Drop ask name false) = None
+accepted (Listing ask from top names next) = None
 accepted (Denied ask why) = None
 
 -- the world after an operation
 abbrev pub acted : World → Doubt → World
 acted world (Changed table group tick) =
     record world { rows = result_unwrap_or (group_outcome world.rows table tick group) world.rows; floors = raised world.floors (group_keys table group) tick }
+acted world (Created name table) = record world { names = with_name world.names (record { spelling = name; table = table }); next_table = table + 1 }
+acted world (Dropped name) = record world { names = without_name world.names name }
 
 -- the world after an entry
 abbrev pub world_after : World → Option Doubt → World
@@ -53,6 +60,9 @@ bounds_after bounds (Resolve ask name table) = bounds
 bounds_after bounds (Get ask table pk rk found) = bounds
 bounds_after bounds (Page ask table options page) = bounds
 bounds_after bounds (Change ask now table group result) = bounds
+bounds_after bounds (Create ask name result) = bounds
+bounds_after bounds (Drop ask name stood) = bounds
+bounds_after bounds (Listing ask from top names next) = bounds
 bounds_after bounds (Denied ask why) = bounds
 
 abbrev pub tables_after : List (ℕ × Option ℕ) → Entry → List (ℕ × Option ℕ)
@@ -61,6 +71,9 @@ tables_after tables (Bounds later) = tables
 tables_after tables (Get ask table pk rk found) = tables
 tables_after tables (Page ask table options page) = tables
 tables_after tables (Change ask now table group result) = tables
+tables_after tables (Create ask name result) = tables
+tables_after tables (Drop ask name stood) = tables
+tables_after tables (Listing ask from top names next) = tables
 tables_after tables (Denied ask why) = tables
 
 -- what a history has come to after one more entry
@@ -85,7 +98,10 @@ AreBounds (bound ∷ bounds) =
 -- the reasons for which a request may be denied whatever the world is
 abbrev pub IsDenial : Why → Type 0
 IsDenial TimeSpent = ⊤
+IsDenial IdsSpent = ⊤
 IsDenial Memory = ⊤
+IsDenial NoTable = ⊥
+IsDenial TableThere = ⊥
 IsDenial NotFound = ⊥
 IsDenial (Op refusal) = ⊥
 
@@ -103,6 +119,11 @@ Allows state (Change ask now table group (Ok tick)) =
     × MayHaveTick state.world.floors (group_keys table group) now tick
 Allows state (Change ask now table group (Err refusal)) =
     (table_for state.tables ask ≡ Some table) × (group_outcome state.world.rows table 0 group ≡ Err refusal)
+Allows state (Create ask name (Some table)) = (table_of state.world.names name ≡ None) × (table ≡ state.world.next_table)
+Allows state (Create ask name None) = is_some (table_of state.world.names name) ≡ true
+Allows state (Drop ask name stood) = stood ≡ is_some (table_of state.world.names name)
+Allows state (Listing ask from top names next) =
+    (names ≡ take top (names_from state.world.names from)) × (next ≡ slice_get (names_from state.world.names from) top)
 Allows state (Denied ask why) = IsDenial why
 
 -- each entry of a history is one that the world may go on with

@@ -1,5 +1,5 @@
 -- The world: one ordered map of rows, the tables' names, and the floor of each key.
-use Rattle.std.specs.Prelude.{◌≡◌, ℕ, ◌+◌, ◌<◌, ◌≤◌, ◌⊎◌, List, ◌++◌, map, find, All, AllPairs, IsTrue, IsFalse, ◌==◌, bytes_eq, Option, option_map, unwrap_or}
+use Rattle.std.specs.Prelude.{◌≡◌, ℕ, ◌+◌, ◌<◌, ◌≤◌, ◌⊎◌, List, [], ◌∷◌, ◌++◌, map, filter, find, All, AllPairs, IsTrue, IsFalse, ◌==◌, bytes_eq, Bool, true, not, if◌then◌else◌, Option, Some, None, option_map, unwrap_or}
 use Rattle.std.specs.Ordering.{is_lt}
 use Rattle.tab_keys.specs.Order.{same_key, name_cmp}
 use Rattle.tab_keys.specs.TableNames.{folded}
@@ -27,6 +27,24 @@ pub record World : Type 0 where
 -- the table of a name, whatever its case
 unfoldable pub table_of : List Named → List ℕ → Option ℕ
 table_of names name = option_map (λ named. named.table) (find (λ named. bytes_eq (folded named.spelling) (folded name)) names)
+
+-- the names with one more, at its place in the order of names without their case
+unfoldable pub with_name : List Named → Named → List Named
+with_name [] named = named ∷ []
+with_name (first ∷ names) named = if is_lt (name_cmp named.spelling first.spelling) then named ∷ first ∷ names else first ∷ with_name names named
+
+-- the names without this one, whatever its case
+unfoldable pub without_name : List Named → List ℕ → List Named
+without_name names name = filter (λ named. not (bytes_eq (folded named.spelling) (folded name))) names
+
+-- a name is not below the one at which a list of names begins
+abbrev pub is_from : Option (List ℕ) → List ℕ → Bool
+is_from None name = true
+is_from (Some after) name = not (is_lt (name_cmp name after))
+
+-- the spellings of the names from one on
+unfoldable pub names_from : List Named → Option (List ℕ) → List (List ℕ)
+names_from names after = filter (is_from after) (map (λ named. named.spelling) names)
 
 -- the floor of a key, the least tick that its next change may have; the last change is the first of the list
 unfoldable pub floor_of : Floors → Key → ℕ

@@ -1,5 +1,6 @@
 ghost use Rattle.std.specs.Prelude.{◌≡◌, [], ◌∷◌, ◌++◌, OnOk, OnErr};
 
+use crate::TableNames;
 use std::alloc::Global;
 use std::marker::Model;
 use tab_keys::{Bound, KeyText, TableName};
@@ -10,12 +11,18 @@ use tab_rows::Row;
 /// Why a request was denied.
 #[derive(Clone, Copy, Debug, PartialEq, Eq)]
 pub enum Denied {
+    /// No table has the name.
+    NoTable,
+    /// A table has the name already.
+    TableThere,
     /// No row is at the key.
     NotFound,
     /// An operation of its group was refused.
     Op(OpRefused),
     /// No moment is left for the tick of a change.
     TimeSpent,
+    /// No number is left for a table.
+    IdsSpent,
     /// No memory was found.
     Memory,
 }
@@ -69,6 +76,26 @@ pub enum Entry {
         group: Group,
         result: Result<u64, OpRefused>,
     },
+    /// A table was made with the number, or there was one of the name.
+    Create {
+        ask: u64,
+        name: TableName,
+        result: Option<u64>,
+    },
+    /// A table was dropped, or there was none of the name.
+    Drop {
+        ask: u64,
+        name: TableName,
+        stood: bool,
+    },
+    /// Names of tables were given, at most `top` from `after` on, and the one behind them.
+    List {
+        ask: u64,
+        after: Option<TableName>,
+        top: u16,
+        names: TableNames,
+        next: Option<TableName>,
+    },
     /// A request was denied for a reason that the world alone does not give.
     Denied {
         ask: u64,
@@ -81,6 +108,10 @@ pub enum Entry {
 pub enum Doubt {
     /// A change of rows with its tick.
     Change { table: u64, group: Group, tick: u64 },
+    /// A table was made with its number.
+    Create { name: TableName, table: u64 },
+    /// A table was dropped.
+    Drop { name: TableName },
 }
 
 /// The entries of a run, in their order.

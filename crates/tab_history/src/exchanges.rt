@@ -1,4 +1,4 @@
-use crate::Denied;
+use crate::{Denied, TableNames};
 use tab_keys::{KeyText, TableName};
 use tab_ops::Group;
 use tab_page::{Options, Page};
@@ -7,6 +7,15 @@ use tab_rows::Row;
 /// What a request asks of the store.
 #[derive(Debug, Drop)]
 pub enum Ask {
+    /// A table of the name is to be made.
+    Create(TableName),
+    /// The table of the name is to be dropped.
+    Drop(TableName),
+    /// The first `top` names of tables, from `after` on where one is given.
+    Tables {
+        after: Option<TableName>,
+        top: u16,
+    },
     /// The row at one key.
     Get {
         name: TableName,
@@ -33,6 +42,15 @@ pub enum Reply {
     Listed(Page),
     /// The change stands, with this tick.
     Changed(u64),
+    /// The table was made, of this name as it was spelled.
+    Made(TableName),
+    /// The table was dropped.
+    Dropped,
+    /// The names that were asked for, and the one behind them.
+    Tables {
+        names: TableNames,
+        next: Option<TableName>,
+    },
     /// The request was refused, and nothing changed.
     Denied(Denied),
 }

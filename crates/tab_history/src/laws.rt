@@ -1,10 +1,12 @@
-ghost use Rattle.std.specs.Prelude.{◌≡◌, List, ◌∷◌, []};
+ghost use Rattle.std.specs.Prelude.{◌≡◌, List, ◌∷◌, ◌++◌, []};
 ghost use Rattle.tab_history.specs.World.{IsWorld};
 ghost use Rattle.tab_history.specs.Legality.{State, Legal, after_all};
 ghost use Rattle.tab_history.specs.Kept.{HasTablesBelow};
 ghost use Rattle.tab_history.specs.Followed.{FollowedWell, FollowedStill, IsFollowed, entries_of, rows_of};
 ghost use Rattle.tab_history.specs.Example.{opening, query, row_of};
 ghost use Rattle.tab_history.specs.Ticks.{TicksRise, TicksTellRows};
+ghost use Rattle.tab_history.specs.TablesExample.{nothing, making, listing, filling, dropping, making_again, left, row_of_p};
+ghost use Rattle.tab_history.specs.Numbers.{NumbersRise, MadeNew, DropsHide};
 ghost use Rattle.tab_history.specs.declared.entries.Entry.{Entry};
 
 /// A legal history leads from a world to a world.
@@ -33,10 +35,35 @@ pub fn ticks_tell_rows()
     ensures { (opening : State) (history : List Entry) → IsWorld opening.world → Legal opening history → TicksTellRows opening history }
 {}
 
+/// Of two tables that were made the later has the greater number, so no number comes again.
+pub fn table_numbers_rise()
+    ensures { (opening : State) (history : List Entry) → Legal opening history → NumbersRise history }
+{}
+
+/// A table that is made has a number that was not given before, and no row.
+pub fn made_tables_are_new()
+    ensures { (opening : State) (history : List Entry) → IsWorld opening.world → HasTablesBelow opening → Legal opening history
+        → MadeNew opening history }
+{}
+
+/// No look-up of a name finds again the rows of a table of that name that was dropped.
+pub fn drops_hide()
+    ensures { (opening : State) (history : List Entry) → IsWorld opening.world → HasTablesBelow opening → Legal opening history
+        → DropsHide opening history }
+{}
+
 /// There are such queries: one of two pages, between which a row was inserted and a range split.
 pub fn a_followed_query()
     ensures world { IsWorld opening.world }
     ensures legal { Legal opening (entries_of query) }
     ensures followed { IsFollowed query }
     ensures rows { rows_of query ≡ row_of 97 0 ∷ row_of 98 1 ∷ row_of 99 2 ∷ row_of 100 7 ∷ [] }
+{}
+
+/// There are such tables: one is made, listed, filled and dropped, and another of its name is empty.
+pub fn tables_that_come_and_go()
+    ensures world { IsWorld nothing.world }
+    ensures legal { Legal nothing (making ++ listing ++ filling ++ dropping ++ making_again) }
+    ensures names { (after_all nothing (making ++ listing ++ filling ++ dropping ++ making_again)).world.names ≡ left }
+    ensures rows { (after_all nothing (making ++ listing ++ filling ++ dropping ++ making_again)).world.rows ≡ row_of_p ∷ [] }
 {}

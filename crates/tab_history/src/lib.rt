@@ -5,9 +5,12 @@
 mod entries;
 mod exchanges;
 mod laws;
+mod table_lists;
 
 pub use entries::{Bounds, Denied, Doubt, Entry, History};
 pub use exchanges::{Ask, Reply};
 pub use laws::{
-    a_followed_query, followed_queries, still_queries, ticks_rise, ticks_tell_rows, worlds_stay,
+    a_followed_query, drops_hide, followed_queries, made_tables_are_new, still_queries,
+    table_numbers_rise, tables_that_come_and_go, ticks_rise, ticks_tell_rows, worlds_stay,
 };
+pub use table_lists::TableNames;
