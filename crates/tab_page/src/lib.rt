@@ -12,7 +12,7 @@ mod tests;
 mod tokens;
 
 pub use pages::{Options, Page, PageRows};
-pub use queries::{OptionRefused, top_is_a_decimal};
+pub use queries::{OptionRefused, read_top, top_is_a_decimal};
 pub use rule::{page, page_prefix, start_key};
 pub use selects::{Names, Select};
 pub use tokens::{Token, TokenRefused, tokens_have_one_spelling};

@@ -114,7 +114,8 @@ fn top_of(alloc: Global, top: Option<&[u8]>) -> Result<u16, OptionRefused>
     }
 }
 
-fn read_top(text: &[u8]) -> Option<u16>
+/// How many a `$top` asks for: a decimal from 1 to 1,000. Lists of tables read it alike.
+pub fn read_top(text: &[u8]) -> Option<u16>
     ensures { result ≡ read_top text.now }
 {
     match text {
