@@ -1,6 +1,8 @@
 pub mod ConditionLemmas
-pub mod DecisionLaws
 mod EntityLemmas
+mod PartLemmas
+pub mod RequestLaws
 mod QuoteLemmas
 mod ReplyLemmas
 mod TextLemmas
+mod BatchLemmas

@@ -1,7 +1,12 @@
+pub mod Causes
 pub mod Targets
+pub mod Signing
 pub mod Preferences
 pub mod Replies
 pub mod Refusals
 pub mod Conditions
+pub mod TableQueries
 pub mod Requests
+pub mod Forms
+pub mod Batches
 pub mod Decisions

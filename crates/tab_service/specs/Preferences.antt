@@ -36,6 +36,21 @@ format_of (Some value) = format_in (map to_ascii_lowercase value)
 unfoldable pub format_for : List Header → Result Bool Refusal
 format_for headers = format_of (first_value (codes "accept") headers)
 
+abbrev pub names_atom : Option (List ℕ) → Bool
+names_atom None = false
+names_atom (Some value) = has_part (codes "application/atom+xml") (map to_ascii_lowercase value)
+
+abbrev pub unless_atom : Bool → Bool → Result Bool Refusal
+unless_atom atom minimal = if atom then Err Format else Ok minimal
+
+abbrev pub read_as_json : Option (List ℕ) → Result Bool Refusal → Result Bool Refusal
+read_as_json kind (Err why) = Err why
+read_as_json kind (Ok minimal) = unless_atom (names_atom kind) minimal
+
+-- the same for a request with a body, which is read as JSON unless the first Content-Type header names Atom
+unfoldable pub format_with_body : List Header → Result Bool Refusal
+format_with_body headers = read_as_json (first_value (codes "content-type") headers) (format_for headers)
+
 abbrev pub preference_of : Option (List ℕ) → Prefer
 preference_of None = Unsaid
 preference_of (Some value) =

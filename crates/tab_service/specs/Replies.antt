@@ -1,68 +1,131 @@
 -- The bytes of replies.
-use Rattle.std.specs.Prelude.{◌≡◌, ℕ, ◌≤◌, List, [], ◌∷◌, ◌++◌, length, flat_map, codes, decimal, Bool, Option, Some, None, if◌then◌else◌, ⊤}
+use Rattle.std.specs.Prelude.{◌≡◌, ℕ, ◌<◌, ◌≤◌, List, [], ◌∷◌, ◌++◌, length, flat_map, codes, decimal, Bool, true, false, Option, Some, None, if◌then◌else◌, ⊤}
 use Rattle.http.specs.StatusCode.{status_text}
 use Rattle.tab_edm.specs.Moments.{text_of_etag}
 use Rattle.tab_edm.specs.declared.TheConstants.{GREATEST}
 use Rattle.tab_rows.specs.Rows.{RowView}
 use Rattle.tab_page.specs.Tokens.{token_text}
 use Rattle.tab_page.specs.declared.pages.Page.{Page as PageView}
+use Rattle.tab_page.specs.declared.selects.Select.TheVariants.{All as AllProperties}
 use Rattle.tab_ops.specs.Groups.{ItemView}
-use Rattle.tab_ops.specs.Changes.{IsTimely}
 use Rattle.tab_ops.specs.declared.ops.Op.{Op as Operation}
 use Rattle.tab_ops.specs.declared.ops.Op.TheVariants.{Insert, Update, Replace, Merge, MergeIn, Delete}
 use Rattle.tab_ops.specs.declared.groups.OpRefused.{OpRefused}
 use Rattle.tab_ops.specs.declared.groups.OpRefused.TheVariants.{AlreadyThere, NotThere, Condition, TooMany, TooLarge, Memory as NoMemory}
 use Rattle.tab_history.specs.declared.entries.Denied.{Denied as Why}
-use Rattle.tab_history.specs.declared.entries.Denied.TheVariants.{NotFound, Op, TimeSpent, Memory}
+use Rattle.tab_history.specs.declared.entries.Denied.TheVariants.{NoTable, TableThere, NotFound, Op, TimeSpent, IdsSpent, Memory}
 use Rattle.tab_history.specs.declared.exchanges.Ask.{Ask}
-use Rattle.tab_history.specs.declared.exchanges.Ask.TheVariants.{Get, Page, Change}
+use Rattle.tab_history.specs.declared.exchanges.Ask.TheVariants.{Create, Drop as Dropping, Tables as Listing, Get, Page, Change}
 use Rattle.tab_history.specs.declared.exchanges.Reply.{Reply}
-use Rattle.tab_history.specs.declared.exchanges.Reply.TheVariants.{Found, Listed, Changed, Denied}
+use Rattle.tab_history.specs.declared.exchanges.Reply.TheVariants.{Found, Listed, Changed, Made, Dropped, Tables, Denied}
 use Rattle.tab_json.specs.Entities.{VersionView, version_of, entity_json, page_json}
 use Rattle.tab_json.specs.Faults.{fault_json}
+use Rattle.tab_json.specs.Tables.{table_json, tables_json}
 use Rattle.tab_json.specs.declared.entities.JsonForm.{JsonForm}
+use Rattle.tab_batch.specs.Replies.{batch_text}
+use Rattle.tab_service.specs.Forms.{IsFormOf}
+use Rattle.tab_service.specs.Causes.{Fault, placed_text}
+use Rattle.tab_service.specs.Causes as cause
 use Rattle.tab_service.specs.declared.forms.Form.{Form}
+use Rattle.tab_service.specs.declared.forms.PartForm.{PartForm}
 use Rattle.tab_service.specs.declared.forms.Prefer.{Prefer}
 use Rattle.tab_service.specs.declared.forms.Prefer.TheVariants.{Unsaid, Content, NoContent}
 use Rattle.tab_service.specs.declared.forms.Request.{Request}
 
 -- ---- which replies may come
 
--- the kept tick that a denial names is a moment
-abbrev pub IsTimelyDenial : Why → Type 0
-IsTimelyDenial NotFound = ⊤
-IsTimelyDenial (Op refusal) = IsTimely refusal
-IsTimelyDenial TimeSpent = ⊤
-IsTimelyDenial Memory = ⊤
+abbrev pub IsCreate : Ask → Type 0
+IsCreate (Create name) = ⊤
+IsCreate (Dropping name) = ⊥
+IsCreate (Listing after top) = ⊥
+IsCreate (Get name pk rk) = ⊥
+IsCreate (Page name options) = ⊥
+IsCreate (Change group) = ⊥
 
--- a reply to such an ask: a row or none for a key, a page for a page, a tick or a refusal for a change of one row, and
--- want of memory for each
-abbrev pub SuitsAsk : Ask → Reply → Type 0
-SuitsAsk (Get name pk rk) (Found row) = ⊤
-SuitsAsk (Get name pk rk) (Listed page) = ⊥
-SuitsAsk (Get name pk rk) (Changed tick) = ⊥
-SuitsAsk (Get name pk rk) (Denied NotFound) = ⊤
-SuitsAsk (Get name pk rk) (Denied (Op refusal)) = ⊥
-SuitsAsk (Get name pk rk) (Denied TimeSpent) = ⊥
-SuitsAsk (Get name pk rk) (Denied Memory) = ⊤
-SuitsAsk (Page name options) (Found row) = ⊥
-SuitsAsk (Page name options) (Listed page) = ⊤
-SuitsAsk (Page name options) (Changed tick) = ⊥
-SuitsAsk (Page name options) (Denied NotFound) = ⊥
-SuitsAsk (Page name options) (Denied (Op refusal)) = ⊥
-SuitsAsk (Page name options) (Denied TimeSpent) = ⊥
-SuitsAsk (Page name options) (Denied Memory) = ⊤
-SuitsAsk (Change group) (Found row) = ⊥
-SuitsAsk (Change group) (Listed page) = ⊥
-SuitsAsk (Change group) (Changed tick) = (length group ≡ 1) × (tick ≤ GREATEST)
-SuitsAsk (Change group) (Denied NotFound) = ⊥
-SuitsAsk (Change group) (Denied (Op refusal)) = (length group ≡ 1) × IsTimely refusal
-SuitsAsk (Change group) (Denied TimeSpent) = ⊤
-SuitsAsk (Change group) (Denied Memory) = ⊤
+abbrev pub IsDrop : Ask → Type 0
+IsDrop (Create name) = ⊥
+IsDrop (Dropping name) = ⊤
+IsDrop (Listing after top) = ⊥
+IsDrop (Get name pk rk) = ⊥
+IsDrop (Page name options) = ⊥
+IsDrop (Change group) = ⊥
 
--- the reply is one to such a request
-unfoldable pub Suits : Request → Reply → Type 0
-Suits request reply = SuitsAsk request.ask reply
+abbrev pub IsListing : Ask → Type 0
+IsListing (Create name) = ⊥
+IsListing (Dropping name) = ⊥
+IsListing (Listing after top) = ⊤
+IsListing (Get name pk rk) = ⊥
+IsListing (Page name options) = ⊥
+IsListing (Change group) = ⊥
+
+abbrev pub IsGet : Ask → Type 0
+IsGet (Create name) = ⊥
+IsGet (Dropping name) = ⊥
+IsGet (Listing after top) = ⊥
+IsGet (Get name pk rk) = ⊤
+IsGet (Page name options) = ⊥
+IsGet (Change group) = ⊥
+
+abbrev pub IsPage : Ask → Type 0
+IsPage (Create name) = ⊥
+IsPage (Dropping name) = ⊥
+IsPage (Listing after top) = ⊥
+IsPage (Get name pk rk) = ⊥
+IsPage (Page name options) = ⊤
+IsPage (Change group) = ⊥
+
+abbrev pub IsChange : Ask → Type 0
+IsChange (Create name) = ⊥
+IsChange (Dropping name) = ⊥
+IsChange (Listing after top) = ⊥
+IsChange (Get name pk rk) = ⊥
+IsChange (Page name options) = ⊥
+IsChange (Change group) = ⊤
+
+-- the place is one of an operation of the change
+abbrev pub IsPlaceIn : ℕ → Ask → Type 0
+IsPlaceIn index (Create name) = ⊥
+IsPlaceIn index (Dropping name) = ⊥
+IsPlaceIn index (Listing after top) = ⊥
+IsPlaceIn index (Get name pk rk) = ⊥
+IsPlaceIn index (Page name options) = ⊥
+IsPlaceIn index (Change group) = index < length group
+
+-- one of the change's operations is refused, and the kept tick is a moment
+abbrev pub SuitsRefusal : Ask → OpRefused → Type 0
+SuitsRefusal ask (AlreadyThere index) = IsPlaceIn index ask
+SuitsRefusal ask (NotThere index) = IsPlaceIn index ask
+SuitsRefusal ask (Condition index tick) = IsPlaceIn index ask × (tick ≤ GREATEST)
+SuitsRefusal ask (TooMany index) = IsPlaceIn index ask
+SuitsRefusal ask (TooLarge index) = IsPlaceIn index ask
+SuitsRefusal ask NoMemory = IsChange ask
+
+-- the reason is one for such an ask: a refused operation for a change alone, and for a batch neither a missing row nor a
+-- table that is there
+abbrev pub SuitsDenial : Bool → Ask → Why → Type 0
+SuitsDenial batch ask NoTable = ⊤
+SuitsDenial batch ask TableThere = batch ≡ false
+SuitsDenial batch ask NotFound = batch ≡ false
+SuitsDenial batch ask (Op refusal) = SuitsRefusal ask refusal
+SuitsDenial batch ask TimeSpent = ⊤
+SuitsDenial batch ask IdsSpent = ⊤
+SuitsDenial batch ask Memory = ⊤
+
+-- a reply to such an ask: a row for a key, a page for a page, a tick for a change, what was done to tables for the same
+-- kind of ask, and a denial for each
+abbrev pub SuitsAsk : Bool → Ask → Reply → Type 0
+SuitsAsk batch ask (Found row) = IsGet ask
+SuitsAsk batch ask (Listed page) = IsPage ask
+SuitsAsk batch ask (Changed tick) = IsChange ask × (tick ≤ GREATEST)
+SuitsAsk batch ask (Made name) = IsCreate ask
+SuitsAsk batch ask Dropped = IsDrop ask
+SuitsAsk batch ask (Tables names next) = IsListing ask
+SuitsAsk batch ask (Denied why) = SuitsDenial batch ask why
+
+-- the request has a form for what it asks, and the reply is one to it
+pub record Suits (request : Request) (reply : Reply) : Type 0 where
+  pub form : IsFormOf request.ask request.form
+  pub suits : SuitsAsk request.form.batch request.ask reply
 
 -- ---- messages of HTTP/1.1
 
@@ -97,28 +160,49 @@ reply_with_body status type more body =
 unfoldable pub fault_reply : ℕ → List ℕ → List ℕ → List ℕ
 fault_reply status code text = reply_with_body status (codes "application/json") [] (fault_json code text)
 
-abbrev pub memory_fault : List ℕ
-memory_fault = fault_reply 507 (codes "OutOfMemory") (codes "No memory was found.")
+-- and the same by its cause
+abbrev pub told : Fault → List ℕ
+told fault = fault_reply fault.status fault.code fault.text
 
-abbrev pub not_there : List ℕ
-not_there = fault_reply 404 (codes "ResourceNotFound") (codes "The entity is not there.")
+abbrev pub memory_fault : List ℕ
+memory_fault = told cause.no_memory
+
+-- the reply to a batch, from the replies to its operations
+unfoldable pub batch_reply : List (List ℕ) → List ℕ
+batch_reply replies = reply_with_body 202 (codes "multipart/mixed; boundary=batchresponse_1") [] (batch_text replies)
+
+-- the reply that says why: to the whole request, or as the only part of the reply to a batch
+unfoldable pub fault_at : Option ℕ → ℕ → List ℕ → List ℕ → List ℕ
+fault_at None status code text = fault_reply status code text
+fault_at (Some index) status code text = batch_reply (fault_reply status code (placed_text index text) ∷ [])
+
+-- and the same by its cause
+abbrev pub told_at : Option ℕ → Fault → List ℕ
+told_at place fault = fault_at place fault.status fault.code fault.text
+
+-- the place of an operation, where it is one of a batch
+abbrev pub place_in : Bool → ℕ → Option ℕ
+place_in true index = Some index
+place_in false index = None
 
 -- the reply to a refused operation
-unfoldable pub refused_reply : OpRefused → List ℕ
-refused_reply (AlreadyThere index) = fault_reply 409 (codes "EntityAlreadyExists") (codes "The entity is there already.")
-refused_reply (NotThere index) = not_there
-refused_reply (Condition index tick) =
-    fault_reply 412 (codes "UpdateConditionNotSatisfied") (codes "The kept version is " ++ text_of_etag tick ++ codes ".")
-refused_reply (TooMany index) = fault_reply 400 (codes "TooManyProperties") (codes "An entity has at most 252 properties.")
-refused_reply (TooLarge index) = fault_reply 400 (codes "EntityTooLarge") (codes "An entity has at most 1048576 bytes.")
-refused_reply NoMemory = memory_fault
+unfoldable pub refused_reply : Bool → OpRefused → List ℕ
+refused_reply batch (AlreadyThere index) = told_at (place_in batch index) cause.entity_there
+refused_reply batch (NotThere index) = told_at (place_in batch index) cause.no_entity
+refused_reply batch (Condition index tick) = told_at (place_in batch index) (cause.other_version (text_of_etag tick))
+refused_reply batch (TooMany index) = told_at (place_in batch index) cause.too_many_properties
+refused_reply batch (TooLarge index) = told_at (place_in batch index) cause.entity_too_large
+refused_reply batch NoMemory = memory_fault
 
--- the reply to a denied request
-unfoldable pub denied_reply : Why → List ℕ
-denied_reply NotFound = not_there
-denied_reply (Op refusal) = refused_reply refusal
-denied_reply TimeSpent = fault_reply 500 (codes "TimeSpent") (codes "The last moment is reached.")
-denied_reply Memory = memory_fault
+-- the reply to a denied request; in a batch the first operation names its table
+unfoldable pub denied_reply : Bool → Why → List ℕ
+denied_reply batch NoTable = told_at (place_in batch 0) cause.no_table
+denied_reply batch TableThere = told cause.table_there
+denied_reply batch NotFound = told cause.no_entity
+denied_reply batch (Op refusal) = refused_reply batch refusal
+denied_reply batch TimeSpent = told cause.time_spent
+denied_reply batch IdsSpent = told cause.numbers_spent
+denied_reply batch Memory = memory_fault
 
 -- the type of a body with minimal metadata, or with none
 abbrev pub json_type : Bool → List ℕ
@@ -152,53 +236,117 @@ applied None = []
 applied (Some preference) = (codes "Preference-Applied", preference) ∷ []
 
 -- the entity that was inserted
-unfoldable pub created_reply : Form → List ℕ → VersionView → Option (List ℕ) → List ℕ
-created_reply form name version preference =
-    reply_with_body 201 (json_type form.json.minimal) (etag_header version.tick ∷ applied preference) (entity_json form.account name form.json version)
+unfoldable pub created_reply : List ℕ → Bool → List ℕ → VersionView → Option (List ℕ) → List ℕ
+created_reply account minimal name version preference =
+    let form : JsonForm = record { minimal = minimal; select = AllProperties } in
+    reply_with_body 201 (json_type minimal) (etag_header version.tick ∷ applied preference) (entity_json account name form version)
 
 -- a reply without a body
 unfoldable pub bodiless_reply : ℕ → List Header → List ℕ
 bodiless_reply status more = head_text status (more ++ version_header ∷ [])
 
 -- the reply to an insert, with the entity or with its version alone, as the client prefers
-abbrev pub insert_reply : Form → Prefer → List ℕ → VersionView → List ℕ
-insert_reply form Unsaid name version = created_reply form name version None
-insert_reply form Content name version = created_reply form name version (Some (codes "return-content"))
-insert_reply form NoContent name version = bodiless_reply 204 (etag_header version.tick ∷ applied (Some (codes "return-no-content")))
+abbrev pub insert_reply : List ℕ → Bool → Prefer → List ℕ → VersionView → List ℕ
+insert_reply account minimal Unsaid name version = created_reply account minimal name version None
+insert_reply account minimal Content name version = created_reply account minimal name version (Some (codes "return-content"))
+insert_reply account minimal NoContent name version = bodiless_reply 204 (etag_header version.tick ∷ applied (Some (codes "return-no-content")))
 
 -- the reply to a write with the row's version
 unfoldable pub written_reply : ℕ → List ℕ
 written_reply tick = bodiless_reply 204 (etag_header tick ∷ [])
 
--- the reply to an operation that stands with this tick
-abbrev pub operation_reply : Form → ItemView → Operation → ℕ → List ℕ
-operation_reply form item (Insert entity) tick =
-    insert_reply form form.prefer item.name (record { pk = item.pk; rk = item.rk; properties = entity.properties; tick = tick })
-operation_reply form item (Update entity condition) tick = written_reply tick
-operation_reply form item (Replace entity) tick = written_reply tick
-operation_reply form item (Merge entity condition) tick = written_reply tick
-operation_reply form item (MergeIn entity) tick = written_reply tick
-operation_reply form item (Delete condition) tick = bodiless_reply 204 []
+-- the reply to an operation that stands with this tick, in the form of its part
+abbrev pub operation_reply : List ℕ → PartForm → ItemView → Operation → ℕ → List ℕ
+operation_reply account part item (Insert entity) tick =
+    insert_reply account part.minimal part.prefer item.name (record { pk = item.pk; rk = item.rk; properties = entity.properties; tick = tick })
+operation_reply account part item (Update entity condition) tick = written_reply tick
+operation_reply account part item (Replace entity) tick = written_reply tick
+operation_reply account part item (Merge entity condition) tick = written_reply tick
+operation_reply account part item (MergeIn entity) tick = written_reply tick
+operation_reply account part item (Delete condition) tick = bodiless_reply 204 []
+
+-- the replies to the operations of a change that stands with this tick
+unfoldable pub operation_replies : List ℕ → List PartForm → List ItemView → ℕ → List (List ℕ)
+operation_replies account [] items tick = []
+operation_replies account (part ∷ parts) [] tick = []
+operation_replies account (part ∷ parts) (item ∷ items) tick =
+    operation_reply account part item item.op tick ∷ operation_replies account parts items tick
+
+abbrev pub sole_reply : List (List ℕ) → List ℕ
+sole_reply [] = []
+sole_reply (reply ∷ more) = reply
+
+-- the replies as those of a batch, or the one that there is
+abbrev pub joined_reply : Bool → List (List ℕ) → List ℕ
+joined_reply true replies = batch_reply replies
+joined_reply false replies = sole_reply replies
 
 -- the reply to a change that stands with this tick
-unfoldable pub change_reply : Form → List ItemView → ℕ → List ℕ
-change_reply form [] tick = []
-change_reply form (item ∷ items) tick = operation_reply form item item.op tick
+abbrev pub change_reply : Form → List ItemView → ℕ → List ℕ
+change_reply form group tick = joined_reply form.batch (operation_replies form.account form.parts group tick)
 
--- the bytes of the reply to an ask in this form; no bytes where the reply is none to such an ask
+-- ---- replies on tables
+
+-- a table that was made, with the preference that counted
+unfoldable pub table_reply : Form → List ℕ → Option (List ℕ) → List ℕ
+table_reply form name preference =
+    reply_with_body 201 (json_type form.json.minimal) (applied preference) (table_json form.account name form.json)
+
+-- what is preferred for the only part
+abbrev pub sole_prefer : List PartForm → Prefer
+sole_prefer [] = Unsaid
+sole_prefer (part ∷ more) = part.prefer
+
+-- the reply to the making of a table, with the table or without a body, as the client prefers
+abbrev pub made_reply : Form → Prefer → List ℕ → List ℕ
+made_reply form Unsaid name = table_reply form name None
+made_reply form Content name = table_reply form name (Some (codes "return-content"))
+made_reply form NoContent name = bodiless_reply 204 (applied (Some (codes "return-no-content")))
+
+-- the header that says where the next list begins
+abbrev pub table_continuation : Option (List ℕ) → List Header
+table_continuation None = []
+table_continuation (Some name) = (codes "x-ms-continuation-NextTableName", token_text name) ∷ []
+
+-- a list of tables
+unfoldable pub tables_reply : Form → List (List ℕ) → Option (List ℕ) → List ℕ
+tables_reply form names next =
+    reply_with_body 200 (json_type form.json.minimal) (table_continuation next) (tables_json form.account names form.json)
+
+-- ---- the reply to an ask in this form; no bytes where it is none to such an ask
+
+abbrev pub found_reply : Form → Ask → RowView → List ℕ
+found_reply form (Create name) row = []
+found_reply form (Dropping name) row = []
+found_reply form (Listing after top) row = []
+found_reply form (Get name pk rk) row = row_reply form.account name form.json row
+found_reply form (Page name options) row = []
+found_reply form (Change group) row = []
+
+abbrev pub listed_reply : Form → Ask → PageView → List ℕ
+listed_reply form (Create name) page = []
+listed_reply form (Dropping name) page = []
+listed_reply form (Listing after top) page = []
+listed_reply form (Get name pk rk) page = []
+listed_reply form (Page name options) page = page_reply form.account name form.json page
+listed_reply form (Change group) page = []
+
+abbrev pub changed_reply : Form → Ask → ℕ → List ℕ
+changed_reply form (Create name) tick = []
+changed_reply form (Dropping name) tick = []
+changed_reply form (Listing after top) tick = []
+changed_reply form (Get name pk rk) tick = []
+changed_reply form (Page name options) tick = []
+changed_reply form (Change group) tick = change_reply form group tick
+
 abbrev pub reply_to_ask : Form → Ask → Reply → List ℕ
-reply_to_ask form (Get name pk rk) (Found row) = row_reply form.account name form.json row
-reply_to_ask form (Get name pk rk) (Listed page) = []
-reply_to_ask form (Get name pk rk) (Changed tick) = []
-reply_to_ask form (Get name pk rk) (Denied why) = denied_reply why
-reply_to_ask form (Page name options) (Found row) = []
-reply_to_ask form (Page name options) (Listed page) = page_reply form.account name form.json page
-reply_to_ask form (Page name options) (Changed tick) = []
-reply_to_ask form (Page name options) (Denied why) = denied_reply why
-reply_to_ask form (Change group) (Found row) = []
-reply_to_ask form (Change group) (Listed page) = []
-reply_to_ask form (Change group) (Changed tick) = change_reply form group tick
-reply_to_ask form (Change group) (Denied why) = denied_reply why
+reply_to_ask form ask (Found row) = found_reply form ask row
+reply_to_ask form ask (Listed page) = listed_reply form ask page
+reply_to_ask form ask (Changed tick) = changed_reply form ask tick
+reply_to_ask form ask (Made name) = made_reply form (sole_prefer form.parts) name
+reply_to_ask form ask Dropped = bodiless_reply 204 []
+reply_to_ask form ask (Tables names next) = tables_reply form names next
+reply_to_ask form ask (Denied why) = denied_reply form.batch why
 
 -- the bytes of the reply to a request
 unfoldable pub reply_text : Request → Reply → List ℕ

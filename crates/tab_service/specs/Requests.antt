@@ -1,60 +1,117 @@
 -- What is asked of a table or of one of its rows, in the order in which such a request may be refused.
-use Rattle.std.specs.Prelude.{ℕ, List, [], ◌∷◌, length, Bool, Option, Some, None, Result, Ok, Err, codes}
+use Rattle.std.specs.Prelude.{ℕ, List, [], ◌∷◌, length, Bool, true, false, Option, Some, None, Result, Ok, Err, if◌then◌else◌, codes, bytes_eq, ◌||◌}
 use Rattle.tab_keys.specs.KeyTexts.{units_of, key_refusal}
+use Rattle.tab_keys.specs.TableNames.{name_refusal}
+use Rattle.tab_keys.specs.declared.table_names.NameRefused.{NameRefused}
 use Rattle.tab_keys.specs.declared.key_texts.KeyRefused.{KeyRefused}
 use Rattle.tab_edm.specs.Entities.{EntityView, made}
 use Rattle.tab_edm.specs.declared.entities.EdmRefused.{EdmRefused}
 use Rattle.tab_page.specs.Queries.{read_options, read_select}
 use Rattle.tab_page.specs.declared.pages.Options.{Options as PageOptions}
-use Rattle.tab_page.specs.declared.queries.OptionRefused.{OptionRefused}
 use Rattle.tab_page.specs.declared.selects.Select.{Select}
 use Rattle.tab_page.specs.declared.selects.Select.TheVariants.{All}
 use Rattle.tab_ops.specs.Groups.{ItemView}
 use Rattle.tab_ops.specs.declared.ops.Match.{Match}
 use Rattle.tab_ops.specs.declared.ops.Op.{Op}
 use Rattle.tab_ops.specs.declared.ops.Op.TheVariants.{Insert, Update, Replace, Merge, MergeIn, Delete}
-use Rattle.tab_history.specs.declared.exchanges.Ask.TheVariants.{Get, Page, Change}
+use Rattle.tab_history.specs.declared.exchanges.Ask.TheVariants.{Create, Drop as Dropping, Tables as Listing, Get, Page, Change}
 use Rattle.tab_http.specs.declared.messages.Header.{Header}
-use Rattle.tab_json.specs.Bodies.{entity_body}
+use Rattle.tab_http.specs.declared.messages.Message.{Message}
+use Rattle.tab_json.specs.Bodies.{entity_body, table_body}
 use Rattle.tab_json.specs.declared.bodies.BodyEntity.{BodyEntity}
 use Rattle.tab_json.specs.declared.bodies.JsonRefused.{JsonRefused}
+use Rattle.tab_json.specs.declared.bodies.JsonRefused.TheVariants.{NotJson, NotObject, ValueType, Key as BodyKey, Memory as NoMemoryForBody}
 use Rattle.tab_service.specs.Conditions.{condition_for, needed_condition}
-use Rattle.tab_service.specs.Preferences.{format_for, preference_for}
+use Rattle.tab_service.specs.Preferences.{format_for, format_with_body, preference_for}
+use Rattle.tab_service.specs.TableQueries.{unless_refused, option_unless, table_window}
+use Rattle.tab_service.specs.Targets.{path_of, resource_in}
 use Rattle.tab_service.specs.declared.forms.Form.{Form}
+use Rattle.tab_service.specs.declared.forms.PartForm.{PartForm}
 use Rattle.tab_service.specs.declared.forms.Prefer.{Prefer}
 use Rattle.tab_service.specs.declared.forms.Prefer.TheVariants.{Unsaid}
 use Rattle.tab_service.specs.declared.forms.Request.{Request}
 use Rattle.tab_service.specs.declared.refusals.Refusal.{Refusal}
-use Rattle.tab_service.specs.declared.refusals.Refusal.TheVariants.{Key, Options, Body, KeysMissing, Entity}
+use Rattle.tab_service.specs.declared.refusals.Refusal.TheVariants.{Path, Method, Key, Name, Body, NoTableName, KeysMissing, Entity}
+use Rattle.tab_service.specs.declared.table_queries.TableWindow.{TableWindow}
+use Rattle.tab_service.specs.declared.targets.Resource.{Resource}
+use Rattle.tab_service.specs.declared.writes.Part.{Part}
 use Rattle.tab_service.specs.declared.writes.Writing.{Writing}
 use Rattle.tab_service.specs.declared.writes.Writing.TheVariants.{Replacing, Merging}
 
--- what comes next, unless the request was refused before
-abbrev pub unless_refused : {A B : Type 0} → Result A Refusal → (A → Result B Refusal) → Result B Refusal
-unless_refused (Ok found) next = next found
-unless_refused (Err why) next = Err why
-
 -- ---- requests
 
--- these properties, in this format
-abbrev pub form_of : List ℕ → Bool → Select → Prefer → Form
-form_of account minimal select prefer = record { account = account; json = record { minimal = minimal; select = select }; prefer = prefer }
+-- these properties, with the reply of the only part
+abbrev pub form_of : List ℕ → Select → PartForm → Form
+form_of account select part =
+    record { account = account; batch = false; json = record { minimal = part.minimal; select = select }; parts = part ∷ [] }
+
+-- the form of a part that is no operation
+abbrev pub plain_part : Bool → Prefer → PartForm
+plain_part minimal prefer = record { insert = false; delete = false; minimal = minimal; prefer = prefer }
 
 -- the request for a page
-abbrev pub page_request : List ℕ → Bool → PageOptions → Request
-page_request account minimal options = record { ask = Page (codes "Goods") options; form = form_of account minimal options.select Unsaid }
+abbrev pub page_request : List ℕ → Bool → List ℕ → PageOptions → Request
+page_request account minimal name options = record { ask = Page name options; form = form_of account options.select (plain_part minimal Unsaid) }
 
 -- the request for one row
-abbrev pub row_request : List ℕ → Bool → Select → List ℕ × List ℕ → Request
-row_request account minimal select keys = record { ask = Get (codes "Goods") keys.0 keys.1; form = form_of account minimal select Unsaid }
+abbrev pub row_request : List ℕ → Bool → Select → List ℕ → List ℕ × List ℕ → Request
+row_request account minimal select name keys =
+    record { ask = Get name keys.0 keys.1; form = form_of account select (plain_part minimal Unsaid) }
+
+-- an operation that inserts
+abbrev pub is_insert : Op → Bool
+is_insert (Insert entity) = true
+is_insert (Update entity condition) = false
+is_insert (Replace entity) = false
+is_insert (Merge entity condition) = false
+is_insert (MergeIn entity) = false
+is_insert (Delete condition) = false
+
+-- an operation that deletes
+abbrev pub is_delete : Op → Bool
+is_delete (Insert entity) = false
+is_delete (Update entity condition) = false
+is_delete (Replace entity) = false
+is_delete (Merge entity condition) = false
+is_delete (MergeIn entity) = false
+is_delete (Delete condition) = true
+
+-- an operation, with how its reply is wanted
+abbrev pub change_part : Bool → Prefer → List ℕ → List ℕ × List ℕ → Op → Part
+change_part minimal prefer name keys op =
+    let item : ItemView = record { name = name; pk = keys.0; rk = keys.1; op = op } in
+    let form : PartForm = record { insert = is_insert op; delete = is_delete op; minimal = minimal; prefer = prefer } in
+    record { item = item; form = form }
 
 -- the request for one operation
-abbrev pub change_request : List ℕ → Bool → Prefer → List ℕ × List ℕ → Op → Request
-change_request account minimal prefer keys op =
-    let item : ItemView = record { name = codes "Goods"; pk = keys.0; rk = keys.1; op = op } in
-    record { ask = Change (item ∷ []); form = form_of account minimal All prefer }
+abbrev pub change_request : List ℕ → Part → Request
+change_request account part = record { ask = Change (part.item ∷ []); form = form_of account All part.form }
+
+abbrev pub single : List ℕ → Result Part Refusal → Result Request Refusal
+single account (Ok part) = Ok (change_request account part)
+single account (Err why) = Err why
+
+-- the request for a list of tables
+abbrev pub tables_request : List ℕ → Bool → TableWindow → Request
+tables_request account minimal window = record { ask = Listing window.after window.top; form = form_of account All (plain_part minimal Unsaid) }
+
+-- the request for a table to be made
+abbrev pub create_request : List ℕ → Bool → Prefer → List ℕ → Request
+create_request account minimal prefer name = record { ask = Create name; form = form_of account All (plain_part minimal prefer) }
+
+-- the request for a table to be dropped
+abbrev pub drop_request : List ℕ → Bool → List ℕ → Request
+drop_request account minimal name = record { ask = Dropping name; form = form_of account All (plain_part minimal Unsaid) }
 
 -- ---- parts of requests
+
+abbrev pub name_unless : List ℕ → Option NameRefused → Result (List ℕ) Refusal
+name_unless text None = Ok text
+name_unless text (Some why) = Err Name
+
+-- the name of a table, in a path or a body
+unfoldable pub table_name : List ℕ → Result (List ℕ) Refusal
+table_name text = name_unless text (name_refusal text)
 
 abbrev pub key_unless : List ℕ → Option KeyRefused → Result (List ℕ) Refusal
 key_unless text None = Ok text
@@ -67,10 +124,6 @@ path_key text = key_unless text (key_refusal text)
 -- the keys of a path
 unfoldable pub row_keys : List ℕ → List ℕ → Result (List ℕ × List ℕ) Refusal
 row_keys pk rk = unless_refused (path_key pk) (λ p. unless_refused (path_key rk) (λ r. Ok (p, r)))
-
-abbrev pub option_unless : {A : Type 0} → Result A OptionRefused → Result A Refusal
-option_unless (Ok found) = Ok found
-option_unless (Err why) = Err (Options why)
 
 -- the options of a query
 unfoldable pub query_options : List ℕ → Result PageOptions Refusal
@@ -87,6 +140,22 @@ body_unless (Err why) = Err (Body why)
 -- what a body says
 unfoldable pub read_body : List ℕ → Result BodyEntity Refusal
 read_body bytes = body_unless (entity_body bytes)
+
+-- why a body names no table
+abbrev pub name_fault : JsonRefused → Refusal
+name_fault NotJson = Body NotJson
+name_fault NotObject = Body NotObject
+name_fault (ValueType member) = NoTableName
+name_fault (BodyKey why) = Body (BodyKey why)
+name_fault NoMemoryForBody = Body NoMemoryForBody
+
+abbrev pub named_in : Result (List ℕ) JsonRefused → Result (List ℕ) Refusal
+named_in (Ok text) = table_name text
+named_in (Err why) = Err (name_fault why)
+
+-- the name of the table that a body gives
+unfoldable pub body_name : List ℕ → Result (List ℕ) Refusal
+body_name bytes = named_in (table_body bytes)
 
 -- a key that a body has to give
 abbrev pub given_key : Option (List ℕ) → Result (List ℕ) Refusal
@@ -106,30 +175,44 @@ entity_for keys body = entity_unless (made (length (units_of keys.0)) (length (u
 
 -- ---- requests in the order of their refusals
 
-unfoldable pub decided_page : List ℕ → List ℕ → List Header → Result Request Refusal
-decided_page account query headers =
+unfoldable pub decided_tables : List ℕ → List ℕ → List Header → Result Request Refusal
+decided_tables account query headers =
+    unless_refused (format_for headers)
+    (λ minimal. unless_refused (table_window query)
+    (λ window. Ok (tables_request account minimal window)))
+
+unfoldable pub decided_create : List ℕ → List Header → List ℕ → Result Request Refusal
+decided_create account headers body =
+    unless_refused (format_with_body headers)
+    (λ minimal. unless_refused (body_name body)
+    (λ name. Ok (create_request account minimal (preference_for headers) name)))
+
+unfoldable pub decided_drop : List ℕ → List Header → List ℕ → Result Request Refusal
+decided_drop account headers name = unless_refused (format_for headers) (λ minimal. Ok (drop_request account minimal name))
+
+unfoldable pub decided_page : List ℕ → List ℕ → List Header → List ℕ → Result Request Refusal
+decided_page account query headers name =
     unless_refused (format_for headers)
     (λ minimal. unless_refused (query_options query)
-    (λ options. Ok (page_request account minimal options)))
+    (λ options. Ok (page_request account minimal name options)))
 
-unfoldable pub decided_row : List ℕ → List ℕ → List Header → List ℕ → List ℕ → Result Request Refusal
-decided_row account query headers pk rk =
-    unless_refused (row_keys pk rk)
-    (λ keys. unless_refused (format_for headers)
+unfoldable pub decided_row : List ℕ → List ℕ → List Header → List ℕ → List ℕ × List ℕ → Result Request Refusal
+decided_row account query headers name keys =
+    unless_refused (format_for headers)
     (λ minimal. unless_refused (query_select query)
-    (λ select. Ok (row_request account minimal select keys))))
+    (λ select. Ok (row_request account minimal select name keys)))
 
-abbrev pub insert_from : List ℕ → Bool → Prefer → BodyEntity → Result Request Refusal
-insert_from account minimal prefer body =
+abbrev pub insert_from : Bool → Prefer → List ℕ → BodyEntity → Result Part Refusal
+insert_from minimal prefer name body =
     unless_refused (given_keys body)
     (λ keys. unless_refused (entity_for keys body)
-    (λ entity. Ok (change_request account minimal prefer keys (Insert entity))))
+    (λ entity. Ok (change_part minimal prefer name keys (Insert entity))))
 
-unfoldable pub decided_insert : List ℕ → List Header → List ℕ → Result Request Refusal
-decided_insert account headers body =
-    unless_refused (format_for headers)
+unfoldable pub decided_insert : List Header → List ℕ → List ℕ → Result Part Refusal
+decided_insert headers name body =
+    unless_refused (format_with_body headers)
     (λ minimal. unless_refused (read_body body)
-    (λ given. insert_from account minimal (preference_for headers) given))
+    (λ given. insert_from minimal (preference_for headers) name given))
 
 -- an entity that is written whole or into a kept one, on its condition, if it has one
 abbrev pub op_for : Writing → EntityView → Option Match → Op
@@ -138,23 +221,46 @@ op_for Replacing entity (Some condition) = Update entity condition
 op_for Merging entity None = MergeIn entity
 op_for Merging entity (Some condition) = Merge entity condition
 
-abbrev pub write_from : List ℕ → Bool → Writing → List ℕ × List ℕ → Option Match → BodyEntity → Result Request Refusal
-write_from account minimal writing keys condition body =
-    unless_refused (entity_for keys body) (λ entity. Ok (change_request account minimal Unsaid keys (op_for writing entity condition)))
+abbrev pub write_from : Bool → Writing → List ℕ → List ℕ × List ℕ → Option Match → BodyEntity → Result Part Refusal
+write_from minimal writing name keys condition body =
+    unless_refused (entity_for keys body) (λ entity. Ok (change_part minimal Unsaid name keys (op_for writing entity condition)))
 
 -- the keys in the body are read, and those of the path taken
-unfoldable pub decided_write : List ℕ → List Header → List ℕ → List ℕ → Writing → List ℕ → Result Request Refusal
-decided_write account headers pk rk writing body =
-    unless_refused (row_keys pk rk)
-    (λ keys. unless_refused (format_for headers)
+unfoldable pub decided_write : List Header → List ℕ → List ℕ × List ℕ → Writing → List ℕ → Result Part Refusal
+decided_write headers name keys writing body =
+    unless_refused (format_with_body headers)
     (λ minimal. unless_refused (condition_for headers)
     (λ condition. unless_refused (read_body body)
-    (λ given. write_from account minimal writing keys condition given))))
+    (λ given. write_from minimal writing name keys condition given)))
 
-unfoldable pub decided_delete : List ℕ → List Header → List ℕ → List ℕ → Result Request Refusal
-decided_delete account headers pk rk =
-    unless_refused (row_keys pk rk)
-    (λ keys. unless_refused (format_for headers)
+unfoldable pub decided_delete : List Header → List ℕ → List ℕ × List ℕ → Result Part Refusal
+decided_delete headers name keys =
+    unless_refused (format_for headers)
     (λ minimal. unless_refused (condition_for headers)
     (λ found. unless_refused (needed_condition found)
-    (λ condition. Ok (change_request account minimal Unsaid keys (Delete condition))))))
+    (λ condition. Ok (change_part minimal Unsaid name keys (Delete condition)))))
+
+-- ---- operations by method
+
+-- the operation that is asked for in a table's rows
+unfoldable pub change_in_rows : Message → List ℕ → Result Part Refusal
+change_in_rows message name =
+    if bytes_eq message.method (codes "POST") then decided_insert message.headers name message.body else Err Method
+
+-- the operation that is asked for on one row; the method PATCH is MERGE
+unfoldable pub change_of_row : Message → List ℕ → List ℕ × List ℕ → Result Part Refusal
+change_of_row message name keys =
+    if bytes_eq message.method (codes "PUT") then decided_write message.headers name keys Replacing message.body
+    else (if bytes_eq message.method (codes "MERGE") || bytes_eq message.method (codes "PATCH") then decided_write message.headers name keys Merging message.body
+    else (if bytes_eq message.method (codes "DELETE") then decided_delete message.headers name keys
+    else Err Method))
+
+-- ---- what a path names
+
+abbrev pub unless_missing : Option Resource → Result Resource Refusal
+unless_missing None = Err Path
+unless_missing (Some resource) = Ok resource
+
+-- the resource that the path of a message names
+abbrev pub resource_at : List ℕ → Message → Result Resource Refusal
+resource_at account message = unless_missing (resource_in account (path_of message.target))

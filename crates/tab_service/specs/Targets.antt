@@ -1,10 +1,11 @@
 -- What the targets of requests name: a path `/ACCOUNT/` and one segment, which is percent-encoded (RFC 3986, section 2.1).
-use Rattle.std.specs.Prelude.{ℕ, ◌+◌, List, [], ◌∷◌, length, take, drop, Bool, ◌||◌, ◌==◌, Option, Some, None, option_map, option_and_then, if◌then◌else◌, codes, bytes_eq}
-use Rattle.std.specs.List.{list_any, position_or_len}
+use Rattle.std.specs.Prelude.{ℕ, ◌+◌, ◌-◌, List, [], ◌∷◌, ◌++◌, length, take, drop, Bool, false, not, ◌&&◌, ◌||◌, ◌==◌, Option, Some, None, option_map, option_and_then, if◌then◌else◌, codes, bytes_eq}
+use Rattle.std.specs.List.{list_any, position_or_len, before_first, after_first}
 use Rattle.std.specs.Str.{is_utf8}
 use Rattle.percent_encoding.specs.Percent.{percent_decode}
+use Rattle.tab_http.specs.Headers.{same_name}
 use Rattle.tab_service.specs.declared.targets.Resource.{Resource}
-use Rattle.tab_service.specs.declared.targets.Resource.TheVariants.{Rows, Row}
+use Rattle.tab_service.specs.declared.targets.Resource.TheVariants.{Tables, Table, Rows, Row, Batch}
 
 -- ---- paths and queries
 
@@ -44,7 +45,7 @@ path_behind account target = option_and_then (behind (codes "/")) (option_and_th
 abbrev pub segment_in : List ℕ → List ℕ → Option (List ℕ)
 segment_in account target = option_and_then one_segment (path_behind account target)
 
--- ---- the address of one row: `NAME(PartitionKey='P',RowKey='R')`, in which each quote of P and R stands twice
+-- ---- the keys of a row: `PartitionKey='P',RowKey='R')`, in which each quote of P and R stands twice
 
 -- a text up to the quote that ends it, and what is behind: 39 is the quote
 unfoldable pub quoted : List ℕ → Option (List ℕ × List ℕ)
@@ -86,22 +87,64 @@ row_key_behind found =
     option_and_then (closed found.0)
     (option_and_then (λ rest. value_named (codes "RowKey='") (without_spaces rest)) (behind (codes ",") found.1))
 
--- the two keys of an address, behind its name
+-- the two keys of an address, behind its name and the parenthesis
 unfoldable pub keys_in : List ℕ → Option (List ℕ × List ℕ)
-keys_in text = option_and_then row_key_behind (value_named (codes "(PartitionKey='") text)
+keys_in text = option_and_then row_key_behind (value_named (codes "PartitionKey='") text)
 
 -- ---- resources
 
--- a row by its keys, which are texts
-abbrev pub row_at : List ℕ × List ℕ → Option Resource
-row_at keys = option_and_then (λ pk. option_map (Row pk) (text_of keys.1)) (text_of keys.0)
+-- a text parted at the first such byte, which stands in it
+abbrev pub parted : ℕ → List ℕ → Option (List ℕ × List ℕ)
+parted byte text =
+    if list_any (λ b. b == byte) text then Some (before_first (λ b. b == byte) text, after_first (λ b. b == byte) text) else None
 
-abbrev pub resource_behind : List ℕ → Option Resource
-resource_behind rest = if bytes_eq rest [] || bytes_eq rest (codes "()") then Some Rows else option_and_then row_at (keys_in rest)
+-- the list of tables: `Tables` or `Tables()`, in any case
+unfoldable pub is_tables : List ℕ → Bool
+is_tables text = same_name text (codes "tables") || same_name text (codes "tables()")
 
--- what a segment names
+-- the text before this mark, which ends it
+unfoldable pub before_mark : List ℕ → List ℕ → Option (List ℕ)
+before_mark mark text =
+    if bytes_eq text (take (length text - length mark) text ++ mark) then Some (take (length text - length mark) text) else None
+
+abbrev pub name_quoted : List ℕ × List ℕ → Option (List ℕ)
+name_quoted parts = if same_name parts.0 (codes "tables(") then before_mark (codes "')") parts.1 else None
+
+-- the NAME of `Tables('NAME')`, with `Tables` in any case: 39 is the quote
+unfoldable pub quoted_table : List ℕ → Option (List ℕ)
+quoted_table text = option_and_then name_quoted (parted 39 text)
+
+-- a table's name may stand in front: something that begins with neither `$`, which is 36, nor a parenthesis, which is 40
+unfoldable pub is_name_place : List ℕ → Bool
+is_name_place [] = false
+is_name_place (b ∷ bytes) = not (b == 36) && not (b == 40)
+
+-- a row of a table by its keys, which are texts
+abbrev pub row_at : List ℕ → List ℕ × List ℕ → Option Resource
+row_at name keys = option_and_then (λ pk. option_map (Row name pk) (text_of keys.1)) (text_of keys.0)
+
+-- the rows of a table or one of them, by what is in the parentheses behind its name
+abbrev pub in_parentheses : List ℕ × List ℕ → Option Resource
+in_parentheses parts = if bytes_eq parts.1 (codes ")") then Some (Rows parts.0) else option_and_then (row_at parts.0) (keys_in parts.1)
+
+abbrev pub address_by : List ℕ → Option (List ℕ × List ℕ) → Option Resource
+address_by text None = Some (Rows text)
+address_by text (Some parts) = in_parentheses parts
+
+-- `NAME`, `NAME()` and `NAME(PartitionKey='P',RowKey='R')`
+unfoldable pub address_of : List ℕ → Option Resource
+address_of text = if is_name_place text then address_by text (parted 40 text) else None
+
+abbrev pub table_or_rows : List ℕ → Option (List ℕ) → Option Resource
+table_or_rows text None = address_of text
+table_or_rows text (Some name) = Some (Table name)
+
+-- what a segment names; batches have a place of their own
 unfoldable pub resource_of : List ℕ → Option Resource
-resource_of segment = option_and_then resource_behind (behind (codes "Goods") segment)
+resource_of text =
+    if is_tables text then Some Tables
+    else (if bytes_eq text (codes "$batch") then Some Batch
+    else table_or_rows text (quoted_table text))
 
 -- what a path names
 unfoldable pub resource_in : List ℕ → List ℕ → Option Resource

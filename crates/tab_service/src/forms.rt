@@ -1,9 +1,11 @@
-ghost use Rattle.std.specs.Prelude.{◌≡◌};
+ghost use Rattle.std.specs.Prelude.{◌≡◌, [], ◌∷◌, IfOk};
 
+use std::alloc::Global;
 use std::marker::Model;
 use tab_edm::TextValue;
 use tab_history::Ask;
 use tab_json::JsonForm;
+use tab_keys::Memory;
 
 /// What a client prefers as the reply to an insert.
 #[derive(Clone, Copy, Debug, PartialEq, Eq)]
@@ -16,14 +18,70 @@ pub enum Prefer {
     NoContent,
 }
 
+/// How the reply to one operation, or to a request that is none, is wanted.
+#[derive(Clone, Copy, Debug, PartialEq, Eq)]
+pub struct PartForm {
+    /// Whether the operation is an insert.
+    pub insert: bool,
+    /// Whether the operation is a delete.
+    pub delete: bool,
+    /// Whether the reply is to have minimal metadata.
+    pub minimal: bool,
+    /// What is preferred, for an insert and for the making of a table.
+    pub prefer: Prefer,
+}
+
+/// The forms of the parts of a request, in their order.
+#[derive(Debug, Drop)]
+pub struct PartForms {
+    forms: Vec<PartForm>,
+}
+
+impl Model for PartForms {
+    ghost use Rattle.std.specs.Prelude.{List, vec_items};
+    ghost use Rattle.tab_service.specs.declared.forms.PartForm.{PartForm};
+
+    ghost Value = { List PartForm };
+
+    ghost view = { λ parts. parts.forms.items };
+}
+
+impl PartForms {
+    pub fn new(forms: Vec<PartForm>) -> PartForms
+        ensures { result ≡ forms.items }
+    {
+        PartForms { forms }
+    }
+
+    /// The form of the only part.
+    pub fn of(alloc: Global, form: PartForm) -> Result<PartForms, Memory>
+        ensures { IfOk result (λ forms. forms ≡ form ∷ []) }
+    {
+        let mut forms = Vec::new(alloc);
+        match forms.push(form) {
+            Ok(()) => Ok(PartForms { forms }),
+            Err(_) => Err(Memory),
+        }
+    }
+
+    pub fn as_slice(&self) -> &[PartForm]
+        ensures { result.now ≡ self.now }
+    {
+        self.forms.as_slice()
+    }
+}
+
 /// How a request wants its reply.
 #[derive(Debug, Drop)]
 pub struct Form {
     /// The account in the request's path.
     pub account: TextValue,
+    /// Whether the request is a batch.
+    pub batch: bool,
+    /// What the request asks for itself. The replies to the operations of a batch go by their parts alone.
     pub json: JsonForm,
-    /// What it prefers, for an insert.
-    pub prefer: Prefer,
+    /// One for each operation of a batch, and else one.
+    pub parts: PartForms,
 }
 
 /// What a message asks, and how it wants its reply.

@@ -1,20 +1,34 @@
-//! Requests and replies as bytes: from a message of a client to what it asks, and from the answer to a reply.
+//! Requests and replies: from a message of a client to what it asks of the store or why it is refused, and from the
+//! answer to the bytes of the reply.
 #![tactic(auto)]
 
+mod batches;
 mod conditions;
 mod decisions;
 mod forms;
-mod plain;
+mod http_faults;
 mod preferences;
+mod queries;
 mod reads;
 mod refusals;
 mod replies;
+mod signing;
+mod table_queries;
+mod table_replies;
+mod tables;
 mod targets;
+#[cfg(test)]
+mod tests;
+#[cfg(test)]
+mod tests_batches;
 mod writes;
 
-pub use decisions::{Decided, decide, one_message_is_one_decision};
-pub use forms::{Form, Prefer, ReplyBytes, Request};
+pub use batches::Refused;
+pub use decisions::{Asked, Decided, decide, messages_have_one_decision, requests_are_in_form};
+pub use forms::{Form, PartForm, PartForms, Prefer, ReplyBytes, Request};
+pub use http_faults::http_fault;
 pub use refusals::{Refusal, refusal_reply};
 pub use replies::{memory_reply, reply_bytes};
+pub use table_queries::TableWindow;
 pub use targets::Resource;
-pub use writes::Writing;
+pub use writes::{Part, Writing};

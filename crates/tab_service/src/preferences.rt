@@ -1,7 +1,7 @@
 ghost use Rattle.std.specs.Prelude.{◌≡◌, IfOk};
 ghost use Rattle.std.specs.Option.{option_copied};
 ghost use Rattle.tab_http.specs.Headers.{first_value};
-ghost use Rattle.tab_service.specs.Preferences.{has_part, asks_atom, format_in, format_for, preference_for};
+ghost use Rattle.tab_service.specs.Preferences.{has_part, asks_atom, format_in, format_for, names_atom, unless_atom, format_with_body, preference_for};
 
 use crate::{Prefer, Refusal};
 use std::alloc::Global;
@@ -33,6 +33,45 @@ fn format_in(text: &[u8]) -> Result<bool, Refusal>
         return Err(Refusal::Format);
     }
     Ok(true)
+}
+
+/// The same for a request with a body, which is read as JSON unless the first Content-Type header names Atom.
+#[tactic(auto, unfolding(crate::specs::Preferences::format_with_body))]
+pub(crate) fn format_with_body(
+    alloc: Global,
+    headers: &[Header],
+) -> Result<Result<bool, Refusal>, Memory>
+    ensures { IfOk result (λ format. format ≡ format_with_body headers.now) }
+{
+    let minimal = match format_for(alloc, headers)? {
+        Ok(minimal) => minimal,
+        Err(why) => return Ok(Err(why)),
+    };
+    let atom = names_atom(alloc, first_value(headers, "content-type"))?;
+    Ok(unless_atom(atom, minimal))
+}
+
+fn unless_atom(atom: bool, minimal: bool) -> Result<bool, Refusal>
+    ensures { result ≡ unless_atom atom minimal }
+{
+    if atom {
+        Err(Refusal::Format)
+    } else {
+        Ok(minimal)
+    }
+}
+
+/// Whether a value names the media type of Atom.
+fn names_atom(alloc: Global, value: Option<&[u8]>) -> Result<bool, Memory>
+    ensures { IfOk result (λ atom. atom ≡ names_atom (option_copied value.entry)) }
+{
+    let Some(value) = value else {
+        return Ok(false);
+    };
+    match value.to_ascii_lowercase(alloc) {
+        Ok(text) => Ok(has_part(b"application/atom+xml", &text)),
+        Err(_) => Err(Memory),
+    }
 }
 
 /// What the first Prefer header says.

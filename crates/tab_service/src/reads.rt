@@ -1,8 +1,8 @@
-ghost use Rattle.std.specs.Prelude.{◌≡◌, IfOk, codes};
-ghost use Rattle.tab_service.specs.Requests.{form_of, page_request, row_request, path_key, row_keys, query_options, query_select, decided_page, decided_row};
+ghost use Rattle.std.specs.Prelude.{◌≡◌, IfOk};
+ghost use Rattle.tab_service.specs.Requests.{form_of, plain_part, page_request, row_request, path_key, row_keys, query_options, query_select, decided_page, decided_row};
 
 use crate::preferences::format_for;
-use crate::{Form, Prefer, Refusal, Request};
+use crate::{Form, PartForm, PartForms, Prefer, Refusal, Request};
 use std::alloc::Global;
 use tab_edm::TextValue;
 use tab_history::Ask;
@@ -18,15 +18,16 @@ pub(crate) fn decided_page(
     account: &str,
     query: &str,
     headers: &[Header],
+    name: TableName,
 ) -> Result<Result<Request, Refusal>, Memory>
-    ensures { IfOk result (λ decided. decided ≡ decided_page account.now query.now headers.now) }
+    ensures { IfOk result (λ decided. decided ≡ decided_page account.now query.now headers.now name) }
 {
     let minimal = match format_for(alloc, headers)? {
         Ok(minimal) => minimal,
         Err(why) => return Ok(Err(why)),
     };
     match query_options(alloc, query)? {
-        Ok(options) => Ok(Ok(page_request(alloc, account, minimal, options)?)),
+        Ok(options) => Ok(Ok(page_request(alloc, account, minimal, name, options)?)),
         Err(why) => Ok(Err(why)),
     }
 }
@@ -38,21 +39,20 @@ pub(crate) fn decided_row(
     account: &str,
     query: &str,
     headers: &[Header],
-    pk: &str,
-    rk: &str,
+    name: TableName,
+    keys: (KeyText, KeyText),
 ) -> Result<Result<Request, Refusal>, Memory>
-    ensures { IfOk result (λ decided. decided ≡ decided_row account.now query.now headers.now pk.now rk.now) }
+    ensures { IfOk result (λ decided. decided ≡ decided_row account.now query.now headers.now name keys) }
 {
-    let keys = match row_keys(alloc, pk, rk)? {
-        Ok(keys) => keys,
-        Err(why) => return Ok(Err(why)),
-    };
     let minimal = match format_for(alloc, headers)? {
         Ok(minimal) => minimal,
         Err(why) => return Ok(Err(why)),
     };
     match query_select(alloc, query)? {
-        Ok(select) => Ok(Ok(row_request(alloc, account, minimal, select, keys)?)),
+        Ok(select) => {
+            let request = row_request(alloc, account, minimal, select, name, keys)?;
+            Ok(Ok(request))
+        }
         Err(why) => Ok(Err(why)),
     }
 }
@@ -120,13 +120,14 @@ fn page_request(
     alloc: Global,
     account: &str,
     minimal: bool,
+    name: TableName,
     options: Options,
 ) -> Result<Request, Memory>
-    ensures { IfOk result (λ request. request ≡ page_request account.now minimal options) }
+    ensures { IfOk result (λ request. request ≡ page_request account.now minimal name options) }
 {
-    let name = goods(alloc)?;
     let select = options.select.try_copy(alloc)?;
-    let form = form_of(alloc, account, minimal, select, Prefer::Unsaid)?;
+    let part = plain_part(minimal, Prefer::Unsaid);
+    let form = form_of(alloc, account, select, part)?;
     Ok(Request {
         ask: Ask::Page { name, options },
         form,
@@ -138,42 +139,49 @@ fn row_request(
     account: &str,
     minimal: bool,
     select: Select,
+    name: TableName,
     keys: (KeyText, KeyText),
 ) -> Result<Request, Memory>
-    ensures { IfOk result (λ request. request ≡ row_request account.now minimal select keys) }
+    ensures { IfOk result (λ request. request ≡ row_request account.now minimal select name keys) }
 {
     let (pk, rk) = keys;
-    let name = goods(alloc)?;
-    let form = form_of(alloc, account, minimal, select, Prefer::Unsaid)?;
+    let part = plain_part(minimal, Prefer::Unsaid);
+    let form = form_of(alloc, account, select, part)?;
     Ok(Request {
         ask: Ask::Get { name, pk, rk },
         form,
     })
 }
 
-/// These properties, in this format.
+/// These properties, with the reply of the only part.
 pub(crate) fn form_of(
     alloc: Global,
     account: &str,
-    minimal: bool,
     select: Select,
-    prefer: Prefer,
+    part: PartForm,
 ) -> Result<Form, Memory>
-    ensures { IfOk result (λ form. form ≡ form_of account.now minimal select prefer) }
+    ensures { IfOk result (λ form. form ≡ form_of account.now select part) }
 {
     let Ok(account) = String::from_str(alloc, account) else {
         return Err(Memory);
     };
+    let minimal = part.minimal;
     Ok(Form {
         account: TextValue::new(account),
+        batch: false,
         json: JsonForm { minimal, select },
-        prefer,
+        parts: PartForms::of(alloc, part)?,
     })
 }
 
-/// The name of the one table.
-pub(crate) fn goods(alloc: Global) -> Result<TableName, Memory>
-    ensures { IfOk result (λ name. name ≡ codes "Goods") }
+/// The form of a part that is no operation.
+pub(crate) fn plain_part(minimal: bool, prefer: Prefer) -> PartForm
+    ensures { result ≡ plain_part minimal prefer }
 {
-    TableName::new(alloc, "Goods").map_err(|_| Memory)
+    PartForm {
+        insert: false,
+        delete: false,
+        minimal,
+        prefer,
+    }
 }

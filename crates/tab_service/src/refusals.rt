@@ -1,138 +1,245 @@
 ghost use Rattle.std.specs.Prelude.{◌≡◌, ◌++◌, IfOk, codes, decimal, string_bytes};
-ghost use Rattle.tab_service.specs.Refusals.{key_fault, input_fault, filter_fault, option_fault, no_object_fault, body_fault, entity_fault, refusal_text};
+ghost use Rattle.tab_service.specs.Causes as cause;
+ghost use Rattle.tab_service.specs.Replies.{fault_at, told_at};
+ghost use Rattle.tab_service.specs.Refusals.{auth_fault, key_fault, filter_fault, option_fault, body_fault, entity_fault, multipart_fault, group_fault, refusal_text};
 
-use crate::replies::{fault_reply, memory_bytes};
+use crate::replies::{fault_reply, memory_fault};
 use std::alloc::Global;
+use tab_auth::AuthRefused;
+use tab_batch::BatchRefused;
 use tab_edm::EdmRefused;
 use tab_filter::FilterRefused;
 use tab_json::JsonRefused;
 use tab_keys::{KeyRefused, Memory};
+use tab_ops::GroupRefused;
 use tab_page::OptionRefused;
 
 /// Why a request is refused before the store is asked.
 #[derive(Debug, Drop)]
 pub enum Refusal {
+    /// It is not signed as it must be.
+    Auth(AuthRefused),
+    /// Its path is no form of one.
+    Path,
+    /// The table name in its path or its body is none.
+    Name,
     /// A key in its path is none.
     Key(KeyRefused),
+    /// Its method is not one of its resource.
+    Method,
     /// It asks for a format that is not served.
     Format,
     /// The options of its query are not read.
     Options(OptionRefused),
+    /// It has a filter, and asks for tables.
+    FilterOfTables,
     /// Its condition is no ETag.
     Condition,
     /// It lacks a condition.
     NoCondition,
-    /// Its body says no entity.
+    /// Its body says no entity, or is no object.
     Body(JsonRefused),
+    /// Its body names no table.
+    NoTableName,
     /// Its body lacks a key.
     KeysMissing,
     /// Its body's properties make no entity.
     Entity(EdmRefused),
+    /// It is a batch, and its Content-Type gives no boundary.
+    NoBoundary,
+    /// It is a batch, and the requests in its body are not read.
+    Multipart(BatchRefused),
+    /// It is a batch, and its operations make no group.
+    Group(GroupRefused),
 }
 
-/// The bytes of the reply to a refused request.
+/// The bytes of the reply to a refused request, or to a batch of which the part at this place is refused.
 #[tactic(auto, unfolding(crate::specs::Refusals::refusal_text))]
-pub fn refusal_reply(alloc: Global, refusal: &Refusal) -> Result<Vec<u8>, Memory>
-    ensures { IfOk result (λ bytes. bytes.items ≡ refusal_text refusal.now) }
+pub fn refusal_reply(
+    alloc: Global,
+    place: Option<usize>,
+    refusal: &Refusal,
+) -> Result<Vec<u8>, Memory>
+    ensures { IfOk result (λ bytes. bytes.items ≡ refusal_text place refusal.now) }
 {
     match refusal {
-        Refusal::Key(why) => key_fault(alloc, *why),
-        Refusal::Format => fault_reply(
+        Refusal::Auth(why) => auth_fault(alloc, place, *why),
+        Refusal::Path => input_fault(alloc, place, "The path is not one of this service."),
+        Refusal::Name => input_fault(alloc, place, "The table name is not valid."),
+        Refusal::Key(why) => key_fault(alloc, place, *why),
+        Refusal::Method => fault_reply(
             alloc,
-            415,
-            "JsonFormatNotSupported",
-            "Only JSON with no or minimal metadata is served.",
+            place,
+            405,
+            "MethodNotAllowed",
+            "The method is not allowed here.",
         ),
-        Refusal::Options(why) => option_fault(alloc, *why),
+        Refusal::Format => format_fault(alloc, place),
+        Refusal::Options(why) => option_fault(alloc, place, *why),
+        Refusal::FilterOfTables => input_fault(alloc, place, "$filter is not taken here."),
         Refusal::Condition => {
-            input_fault(alloc, "The If-Match value is not an ETag of this service.")
+            input_fault(
+                alloc,
+                place,
+                "The If-Match value is not an ETag of this service.",
+            )
         }
         Refusal::NoCondition => {
-            fault_reply(alloc, 400, "MissingRequiredHeader", "If-Match is needed.")
+            fault_reply(
+                alloc,
+                place,
+                400,
+                "MissingRequiredHeader",
+                "If-Match is needed.",
+            )
         }
-        Refusal::Body(why) => body_fault(alloc, why),
-        Refusal::KeysMissing => fault_reply(
-            alloc,
-            400,
-            "PropertiesNeedValue",
-            "PartitionKey and RowKey are needed.",
-        ),
-        Refusal::Entity(why) => entity_fault(alloc, why),
+        Refusal::Body(why) => body_fault(alloc, place, why),
+        Refusal::NoTableName => input_fault(alloc, place, "TableName is missing or not a text."),
+        Refusal::KeysMissing => keys_fault(alloc, place),
+        Refusal::Entity(why) => entity_fault(alloc, place, why),
+        Refusal::NoBoundary => input_fault(alloc, place, "The Content-Type has no boundary."),
+        Refusal::Multipart(why) => multipart_fault(alloc, place, *why),
+        Refusal::Group(why) => group_fault(alloc, place, *why),
     }
 }
 
+#[tactic(auto, unfolding(crate::specs::Refusals::auth_fault))]
+fn auth_fault(alloc: Global, place: Option<usize>, why: AuthRefused) -> Result<Vec<u8>, Memory>
+    ensures { IfOk result (λ bytes. bytes.items ≡ auth_fault place why) }
+{
+    match why {
+        AuthRefused::Missing => denial(
+            alloc,
+            place,
+            "Authorization is missing or is not SharedKeyLite.",
+        ),
+        AuthRefused::UnknownAccount => denial(alloc, place, "The account is not known here."),
+        AuthRefused::DateUnread => denial(alloc, place, "The date cannot be read."),
+        AuthRefused::TooOld => denial(alloc, place, "The date is more than 15 minutes old."),
+        AuthRefused::TooEarly => denial(alloc, place, "The date is more than 15 minutes ahead."),
+        AuthRefused::Differs => denial(alloc, place, "The signature differs."),
+        AuthRefused::Memory => memory_fault(alloc, place),
+    }
+}
+
+fn denial(alloc: Global, place: Option<usize>, text: &str) -> Result<Vec<u8>, Memory>
+    ensures { IfOk result (λ bytes. bytes.items ≡ fault_at place 403 (codes "AuthenticationFailed") text.now) }
+{
+    fault_reply(alloc, place, 403, "AuthenticationFailed", text)
+}
+
+fn format_fault(alloc: Global, place: Option<usize>) -> Result<Vec<u8>, Memory>
+    ensures { IfOk result (λ bytes. bytes.items ≡ told_at place cause.not_json_format) }
+{
+    fault_reply(
+        alloc,
+        place,
+        415,
+        "JsonFormatNotSupported",
+        "Only JSON with no or minimal metadata is served.",
+    )
+}
+
+fn keys_fault(alloc: Global, place: Option<usize>) -> Result<Vec<u8>, Memory>
+    ensures { IfOk result (λ bytes. bytes.items ≡ told_at place cause.keys_missing) }
+{
+    fault_reply(
+        alloc,
+        place,
+        400,
+        "PropertiesNeedValue",
+        "PartitionKey and RowKey are needed.",
+    )
+}
+
 #[tactic(auto, unfolding(crate::specs::Refusals::key_fault))]
-fn key_fault(alloc: Global, why: KeyRefused) -> Result<Vec<u8>, Memory>
-    ensures { IfOk result (λ bytes. bytes.items ≡ key_fault why) }
+fn key_fault(alloc: Global, place: Option<usize>, why: KeyRefused) -> Result<Vec<u8>, Memory>
+    ensures { IfOk result (λ bytes. bytes.items ≡ key_fault place why) }
 {
     match why {
         KeyRefused::TooLong => fault_reply(
             alloc,
+            place,
             400,
             "KeyValueTooLarge",
             "A key has at most 1024 units.",
         ),
         KeyRefused::BadCharacter => fault_reply(
             alloc,
+            place,
             400,
             "InvalidInput",
             "A key has a character that is not allowed.",
         ),
-        KeyRefused::Memory => memory_bytes(alloc),
+        KeyRefused::Memory => memory_fault(alloc, place),
     }
 }
 
-#[tactic(auto, unfolding(crate::specs::Refusals::input_fault))]
-fn input_fault(alloc: Global, text: &str) -> Result<Vec<u8>, Memory>
-    ensures { IfOk result (λ bytes. bytes.items ≡ input_fault text.now) }
+/// The reply to a request that the service does not read.
+fn input_fault(alloc: Global, place: Option<usize>, text: &str) -> Result<Vec<u8>, Memory>
+    ensures { IfOk result (λ bytes. bytes.items ≡ fault_at place 400 (codes "InvalidInput") text.now) }
 {
-    fault_reply(alloc, 400, "InvalidInput", text)
+    fault_reply(alloc, place, 400, "InvalidInput", text)
 }
 
 #[tactic(auto, unfolding(crate::specs::Refusals::option_fault))]
-fn option_fault(alloc: Global, why: OptionRefused) -> Result<Vec<u8>, Memory>
-    ensures { IfOk result (λ bytes. bytes.items ≡ option_fault why) }
+fn option_fault(alloc: Global, place: Option<usize>, why: OptionRefused) -> Result<Vec<u8>, Memory>
+    ensures { IfOk result (λ bytes. bytes.items ≡ option_fault place why) }
 {
     match why {
-        OptionRefused::BadOption => input_fault(alloc, "A query option is given twice."),
-        OptionRefused::BadTop => input_fault(alloc, "The value of $top is not 1 to 1000."),
-        OptionRefused::BadToken => input_fault(alloc, "A continuation token cannot be read."),
-        OptionRefused::Filter(why) => filter_fault(alloc, why),
-        OptionRefused::Memory => memory_bytes(alloc),
+        OptionRefused::BadOption => input_fault(alloc, place, "A query option is given twice."),
+        OptionRefused::BadTop => input_fault(alloc, place, "The value of $top is not 1 to 1000."),
+        OptionRefused::BadToken => input_fault(
+            alloc,
+            place,
+            "A continuation token cannot be read.",
+        ),
+        OptionRefused::Filter(why) => filter_fault(alloc, place, why),
+        OptionRefused::Memory => memory_fault(alloc, place),
     }
 }
 
 #[tactic(auto, unfolding(crate::specs::Refusals::filter_fault))]
-fn filter_fault(alloc: Global, why: FilterRefused) -> Result<Vec<u8>, Memory>
-    ensures { IfOk result (λ bytes. bytes.items ≡ filter_fault why) }
+fn filter_fault(alloc: Global, place: Option<usize>, why: FilterRefused) -> Result<Vec<u8>, Memory>
+    ensures { IfOk result (λ bytes. bytes.items ≡ filter_fault place why) }
 {
     match why {
-        FilterRefused::Syntax { at } => placed_fault(alloc, "The filter cannot be read at ", at),
+        FilterRefused::Syntax { at } => placed_fault(
+            alloc,
+            place,
+            "The filter cannot be read at ",
+            at,
+        ),
         FilterRefused::TooManyComparisons => {
-            input_fault(alloc, "The filter has more than 15 comparisons.")
+            input_fault(alloc, place, "The filter has more than 15 comparisons.")
         }
         FilterRefused::BadLiteral { at } => {
-            placed_fault(alloc, "The filter has a wrong literal at ", at)
+            placed_fault(alloc, place, "The filter has a wrong literal at ", at)
         }
-        FilterRefused::Memory => memory_bytes(alloc),
+        FilterRefused::Memory => memory_fault(alloc, place),
     }
 }
 
-fn placed_fault(alloc: Global, before: &str, at: usize) -> Result<Vec<u8>, Memory>
-    ensures { IfOk result (λ bytes. bytes.items ≡ input_fault (before.now ++ decimal at ++ codes ".")) }
+fn placed_fault(
+    alloc: Global,
+    place: Option<usize>,
+    before: &str,
+    at: usize,
+) -> Result<Vec<u8>, Memory>
+    ensures { IfOk result (λ bytes. bytes.items ≡ fault_at place 400 (codes "InvalidInput") (before.now ++ decimal at ++ codes ".")) }
 {
-    let place = at.to_string(alloc).map_err(|_| Memory)?;
-    let text = around(alloc, before, place.as_str(), ".")?;
-    input_fault(alloc, text.as_str())
+    let at = at.to_string(alloc).map_err(|_| Memory)?;
+    let text = around(alloc, before, at.as_str(), ".")?;
+    input_fault(alloc, place, text.as_str())
 }
 
 #[tactic(auto, unfolding(crate::specs::Refusals::body_fault))]
-fn body_fault(alloc: Global, why: &JsonRefused) -> Result<Vec<u8>, Memory>
-    ensures { IfOk result (λ bytes. bytes.items ≡ body_fault why.now) }
+fn body_fault(alloc: Global, place: Option<usize>, why: &JsonRefused) -> Result<Vec<u8>, Memory>
+    ensures { IfOk result (λ bytes. bytes.items ≡ body_fault place why.now) }
 {
     match why {
-        JsonRefused::NotJson => no_object_fault(alloc),
-        JsonRefused::NotObject => no_object_fault(alloc),
+        JsonRefused::NotJson => no_object_fault(alloc, place),
+        JsonRefused::NotObject => no_object_fault(alloc, place),
         JsonRefused::ValueType(name) => {
             let text = around(
                 alloc,
@@ -140,28 +247,22 @@ fn body_fault(alloc: Global, why: &JsonRefused) -> Result<Vec<u8>, Memory>
                 name.as_str(),
                 " is not of its type.",
             )?;
-            fault_reply(alloc, 400, "InvalidValueType", text.as_str())
+            fault_reply(alloc, place, 400, "InvalidValueType", text.as_str())
         }
-        JsonRefused::Key(why) => key_fault(alloc, *why),
-        JsonRefused::Memory => memory_bytes(alloc),
+        JsonRefused::Key(why) => key_fault(alloc, place, *why),
+        JsonRefused::Memory => memory_fault(alloc, place),
     }
 }
 
-#[tactic(auto, unfolding(crate::specs::Refusals::no_object_fault))]
-fn no_object_fault(alloc: Global) -> Result<Vec<u8>, Memory>
-    ensures { IfOk result (λ bytes. bytes.items ≡ no_object_fault) }
+fn no_object_fault(alloc: Global, place: Option<usize>) -> Result<Vec<u8>, Memory>
+    ensures { IfOk result (λ bytes. bytes.items ≡ told_at place cause.no_object) }
 {
-    fault_reply(
-        alloc,
-        400,
-        "InvalidInput",
-        "The body is not one JSON object.",
-    )
+    input_fault(alloc, place, "The body is not one JSON object.")
 }
 
 #[tactic(auto, unfolding(crate::specs::Refusals::entity_fault))]
-fn entity_fault(alloc: Global, why: &EdmRefused) -> Result<Vec<u8>, Memory>
-    ensures { IfOk result (λ bytes. bytes.items ≡ entity_fault why.now) }
+fn entity_fault(alloc: Global, place: Option<usize>, why: &EdmRefused) -> Result<Vec<u8>, Memory>
+    ensures { IfOk result (λ bytes. bytes.items ≡ entity_fault place why.now) }
 {
     match why {
         EdmRefused::NameInvalid(property) => {
@@ -171,10 +272,11 @@ fn entity_fault(alloc: Global, why: &EdmRefused) -> Result<Vec<u8>, Memory>
                 property.name.as_str(),
                 " is not valid.",
             )?;
-            fault_reply(alloc, 400, "PropertyNameInvalid", text.as_str())
+            fault_reply(alloc, place, 400, "PropertyNameInvalid", text.as_str())
         }
         EdmRefused::NameTooLong(_) => fault_reply(
             alloc,
+            place,
             400,
             "PropertyNameTooLong",
             "A property name is longer than 255 characters.",
@@ -186,21 +288,71 @@ fn entity_fault(alloc: Global, why: &EdmRefused) -> Result<Vec<u8>, Memory>
                 property.name.as_str(),
                 " is too large.",
             )?;
-            fault_reply(alloc, 400, "PropertyValueTooLarge", text.as_str())
+            fault_reply(alloc, place, 400, "PropertyValueTooLarge", text.as_str())
         }
         EdmRefused::TooMany => fault_reply(
             alloc,
+            place,
             400,
             "TooManyProperties",
             "An entity has at most 252 properties.",
         ),
         EdmRefused::TooLarge => fault_reply(
             alloc,
+            place,
             400,
             "EntityTooLarge",
             "An entity has at most 1048576 bytes.",
         ),
-        EdmRefused::Memory => memory_bytes(alloc),
+        EdmRefused::Memory => memory_fault(alloc, place),
+    }
+}
+
+#[tactic(auto, unfolding(crate::specs::Refusals::multipart_fault))]
+fn multipart_fault(
+    alloc: Global,
+    place: Option<usize>,
+    why: BatchRefused,
+) -> Result<Vec<u8>, Memory>
+    ensures { IfOk result (λ bytes. bytes.items ≡ multipart_fault place why) }
+{
+    match why {
+        BatchRefused::BadMultipart { at } => {
+            placed_fault(alloc, place, "The multipart body cannot be read at ", at)
+        }
+        BatchRefused::BadPart { .. } => {
+            input_fault(alloc, place, "The part is not an HTTP request.")
+        }
+        BatchRefused::Memory => memory_fault(alloc, place),
+    }
+}
+
+#[tactic(auto, unfolding(crate::specs::Refusals::group_fault))]
+fn group_fault(alloc: Global, place: Option<usize>, why: GroupRefused) -> Result<Vec<u8>, Memory>
+    ensures { IfOk result (λ bytes. bytes.items ≡ group_fault place why) }
+{
+    match why {
+        GroupRefused::Empty => input_fault(alloc, place, "The change set is empty."),
+        GroupRefused::TooMany => input_fault(
+            alloc,
+            place,
+            "The change set has more than 100 operations.",
+        ),
+        GroupRefused::MixedPartitions { .. } => fault_reply(
+            alloc,
+            place,
+            400,
+            "CommandsInBatchActOnDifferentPartitions",
+            "The operations are not in one partition of one table.",
+        ),
+        GroupRefused::DoubledRow { .. } => fault_reply(
+            alloc,
+            place,
+            400,
+            "InvalidDuplicateRow",
+            "The entity is named twice.",
+        ),
+        GroupRefused::Memory => memory_fault(alloc, place),
     }
 }
 

@@ -1,20 +1,24 @@
-ghost use Rattle.std.specs.Prelude.{◌≡◌, ◌≤◌, ◌∷◌, ◌++◌, [], Some, length, map, flat_map, codes, decimal, string_bytes, IfOk, OnOk};
+ghost use Rattle.std.specs.Prelude.{◌≡◌, ◌≤◌, ◌∷◌, ◌++◌, [], Some, length, map, flat_map, codes, decimal, string_bytes, vec_items, IfOk, OnOk};
 ghost use Rattle.std.specs.Option.{option_copied};
 ghost use Rattle.http.specs.StatusCode.{IsStatusCode};
 ghost use Rattle.tab_edm.specs.Moments.{text_of_etag};
-ghost use Rattle.tab_service.specs.Replies.{Suits, header_line, status_line, head_text, version_header, reply_with_body, fault_reply, refused_reply, denied_reply, json_type, continuation, page_reply, row_reply, applied, created_reply, bodiless_reply, insert_reply, written_reply, change_reply, reply_text, IsTimelyDenial, not_there};
-ghost use Rattle.tab_ops.specs.Changes.{IsTimely};
+ghost use Rattle.tab_service.specs.Replies.{IsGet, IsPage, IsChange, SuitsRefusal, SuitsDenial, Suits, header_line, status_line, head_text, version_header, reply_with_body, fault_reply, batch_reply, fault_at, told, told_at, place_in, refused_reply, denied_reply, memory_fault, json_type, continuation, page_reply, row_reply, applied, created_reply, bodiless_reply, insert_reply, written_reply, operation_reply, operation_replies, change_reply, found_reply, listed_reply, changed_reply, reply_to_ask, reply_text};
+ghost use Rattle.tab_service.specs.Forms.{IsFormOf};
+ghost use Rattle.tab_service.specs.Causes.{placed_text};
+ghost use Rattle.tab_service.specs.Causes as cause;
 
 use crate::refusals::around;
-use crate::{Form, Prefer, Request};
+use crate::table_replies::{made_reply, tables_reply};
+use crate::{Form, PartForm, Prefer, Request};
 use http::StatusCode;
 use std::alloc::{AllocError, Global};
+use tab_batch::write_batch;
 use tab_edm::{GREATEST, etag_text};
 use tab_history::{Ask, Denied, Reply};
-use tab_json::{Version, write_fault, write_page, write_version};
+use tab_json::{JsonForm, Version, write_fault, write_page, write_version};
 use tab_keys::{KeyText, Memory, TableName};
-use tab_ops::{Group, Op, OpRefused};
-use tab_page::{Page, Token};
+use tab_ops::{Group, Item, Op, OpRefused};
+use tab_page::{Page, Select, Token};
 use tab_rows::Row;
 
 /// The reply to any request for which no memory was found.
@@ -28,35 +32,74 @@ const PLAIN_JSON: &str = "application/json;odata=nometadata;streaming=true;chars
 
 const JSON: &str = "application/json";
 
+const BATCH: &str = "multipart/mixed; boundary=batchresponse_1";
+
 /// The version of the protocol that is spoken.
 const VERSION: &str = "2019-02-02";
 
 /// The bytes of the reply to a request.
-#[tactic(auto, unfolding(crate::specs::Replies::Suits, crate::specs::Replies::reply_text))]
+#[tactic(auto, unfolding(crate::specs::Replies::reply_text))]
 pub fn reply_bytes(alloc: Global, request: &Request, reply: &Reply) -> Result<Vec<u8>, Memory>
     requires { Suits request.now reply.now }
     ensures { IfOk result (λ bytes. bytes.items ≡ reply_text request.now reply.now) }
 {
     let form = &request.form;
-    match (&request.ask, reply) {
-        (Ask::Get { name, .. }, Reply::Found(row)) => row_reply(alloc, form, name, row),
-        (Ask::Page { name, .. }, Reply::Listed(page)) => page_reply(alloc, form, name, page),
-        (Ask::Change { group }, Reply::Changed(tick)) => change_reply(alloc, form, group, *tick),
-        (_, Reply::Denied(why)) => denied_reply(alloc, *why),
+    match reply {
+        Reply::Found(row) => found_reply(alloc, form, &request.ask, row),
+        Reply::Listed(page) => listed_reply(alloc, form, &request.ask, page),
+        Reply::Changed(tick) => changed_reply(alloc, form, &request.ask, *tick),
+        Reply::Made(name) => made_reply(alloc, form, name),
+        Reply::Dropped => bodiless_bytes(alloc, &[]),
+        Reply::Tables { names, next } => tables_reply(alloc, form, names, next),
+        Reply::Denied(why) => denied_reply(alloc, form.batch, &request.ask, *why),
+    }
+}
+
+/// The row that was asked for.
+fn found_reply(alloc: Global, form: &Form, ask: &Ask, row: &Row) -> Result<Vec<u8>, Memory>
+    requires { IsGet ask.now }
+    ensures { IfOk result (λ bytes. bytes.items ≡ found_reply form.now ask.now row.now) }
+{
+    match ask {
+        Ask::Get { name, .. } => row_reply(alloc, form, name, row),
+        _ => unreachable!(),
+    }
+}
+
+/// The page that was asked for.
+fn listed_reply(alloc: Global, form: &Form, ask: &Ask, page: &Page) -> Result<Vec<u8>, Memory>
+    requires { IsPage ask.now }
+    ensures { IfOk result (λ bytes. bytes.items ≡ listed_reply form.now ask.now page.now) }
+{
+    match ask {
+        Ask::Page { name, .. } => page_reply(alloc, form, name, page),
+        _ => unreachable!(),
+    }
+}
+
+/// What came of a change.
+fn changed_reply(alloc: Global, form: &Form, ask: &Ask, tick: u64) -> Result<Vec<u8>, Memory>
+    requires form { IsFormOf ask.now form.now }
+    requires change { IsChange ask.now }
+    requires in_time { tick ≤ GREATEST }
+    ensures { IfOk result (λ bytes. bytes.items ≡ changed_reply form.now ask.now tick) }
+{
+    match ask {
+        Ask::Change { group } => change_reply(alloc, form, group, tick),
         _ => unreachable!(),
     }
 }
 
 /// The reply that needs no memory, for where none was found.
 pub fn memory_reply() -> &'static [u8]
-    ensures { result.now ≡ fault_reply 507 (codes "OutOfMemory") (codes "No memory was found.") }
+    ensures { result.now ≡ memory_fault }
 {
     MEMORY_REPLY.as_bytes()
 }
 
 /// A copy of the reply that no memory was found.
 pub(crate) fn memory_bytes(alloc: Global) -> Result<Vec<u8>, Memory>
-    ensures { IfOk result (λ bytes. bytes.items ≡ fault_reply 507 (codes "OutOfMemory") (codes "No memory was found.")) }
+    ensures { IfOk result (λ bytes. bytes.items ≡ memory_fault) }
 {
     Vec::from_slice(alloc, memory_reply()).map_err(|_| Memory)
 }
@@ -116,17 +159,68 @@ fn row_reply(alloc: Global, form: &Form, name: &TableName, row: &Row) -> Result<
     reply_with_body(alloc, 200, kind, &[("ETag", etag.as_str())], body.as_str())
 }
 
-#[tactic(auto, unfolding(crate::specs::Replies::change_reply))]
+/// The reply to a change that stands, to its one operation or as that to a batch.
+#[tactic(auto, unfolding(crate::specs::Replies::operation_replies))]
 fn change_reply(alloc: Global, form: &Form, group: &Group, tick: u64) -> Result<Vec<u8>, Memory>
-    requires one { length group.now ≡ 1 }
+    requires form { IsFormOf (Ask.Change group.now) form.now }
     requires in_time { tick ≤ GREATEST }
     ensures { IfOk result (λ bytes. bytes.items ≡ change_reply form.now group.now tick) }
 {
-    let item = &group.items()[0];
+    let account = form.account.as_str();
+    let items = group.items();
+    let parts = form.parts.as_slice();
+    if form.batch {
+        let replies = operation_replies(alloc, account, parts, items, tick)?;
+        batch_reply(alloc, &replies)
+    } else {
+        operation_reply(alloc, account, parts[0], &items[0], tick)
+    }
+}
+
+/// The replies to operations that stand, each in the form of its part.
+#[tactic(auto, unfolding(crate::specs::Replies::operation_replies))]
+fn operation_replies(
+    alloc: Global,
+    account: &str,
+    parts: &[PartForm],
+    items: &[Item],
+    tick: u64,
+) -> Result<Vec<Vec<u8>>, Memory>
+    requires in_time { tick ≤ GREATEST }
+    ensures { IfOk result (λ replies. map vec_items replies.items ≡ operation_replies account.now parts.now items.now tick) }
+{
+    let mut replies = Vec::new(alloc);
+    let mut forms = parts;
+    let mut left = items;
+    while let Some((part, more)) = forms.split_first() {
+        let Some((item, later)) = left.split_first() else {
+            return Ok(replies);
+        };
+        let reply = operation_reply(alloc, account, *part, item, tick)?;
+        let Ok(()) = replies.push(reply) else {
+            return Err(Memory);
+        };
+        forms = more;
+        left = later;
+    }
+    Ok(replies)
+}
+
+/// The reply to an operation that stands, in the form of its part.
+fn operation_reply(
+    alloc: Global,
+    account: &str,
+    part: PartForm,
+    item: &Item,
+    tick: u64,
+) -> Result<Vec<u8>, Memory>
+    requires in_time { tick ≤ GREATEST }
+    ensures { IfOk result (λ bytes. bytes.items ≡ operation_reply account.now part item.now item.now.op tick) }
+{
     match &item.op {
         Op::Insert(entity) => {
             let version = Version::new(&item.pk, &item.rk, entity, tick);
-            insert_reply(alloc, form, &item.name, &version)
+            insert_reply(alloc, account, part, &item.name, &version)
         }
         Op::Update(_, _) | Op::Replace(_) | Op::Merge(_, _) | Op::MergeIn(_) => {
             written_reply(alloc, tick)
@@ -145,7 +239,7 @@ fn written_reply(alloc: Global, tick: u64) -> Result<Vec<u8>, Memory>
     bodiless_bytes(alloc, &[("ETag", etag.as_str())])
 }
 
-fn bodiless_bytes(alloc: Global, headers: &[(&str, &str)]) -> Result<Vec<u8>, Memory>
+pub(crate) fn bodiless_bytes(alloc: Global, headers: &[(&str, &str)]) -> Result<Vec<u8>, Memory>
     ensures { IfOk result (λ bytes. bytes.items ≡ bodiless_reply 204 (map (λ header. (header.0.now, header.1.now)) headers.now)) }
 {
     let head = bodiless_text(alloc, 204, headers).map_err(|_| Memory)?;
@@ -154,15 +248,20 @@ fn bodiless_bytes(alloc: Global, headers: &[(&str, &str)]) -> Result<Vec<u8>, Me
 
 fn insert_reply(
     alloc: Global,
-    form: &Form,
+    account: &str,
+    part: PartForm,
     name: &TableName,
     version: &Version,
 ) -> Result<Vec<u8>, Memory>
-    ensures { IfOk result (λ bytes. bytes.items ≡ insert_reply form.now form.now.prefer name.now version.now) }
+    ensures { IfOk result (λ bytes. bytes.items ≡ insert_reply account.now part.minimal part.prefer name.now version.now) }
 {
-    match form.prefer {
-        Prefer::Unsaid => created_reply(alloc, form, name, version, None),
-        Prefer::Content => created_reply(alloc, form, name, version, Some("return-content")),
+    let minimal = part.minimal;
+    match part.prefer {
+        Prefer::Unsaid => created_reply(alloc, account, minimal, name, version, None),
+        Prefer::Content => {
+            let applied = Some("return-content");
+            created_reply(alloc, account, minimal, name, version, applied)
+        }
         Prefer::NoContent => version_reply(alloc, version),
     }
 }
@@ -171,16 +270,21 @@ fn insert_reply(
 #[tactic(auto, unfolding(crate::specs::Replies::created_reply))]
 fn created_reply(
     alloc: Global,
-    form: &Form,
+    account: &str,
+    minimal: bool,
     name: &TableName,
     version: &Version,
     preference: Option<&str>,
 ) -> Result<Vec<u8>, Memory>
-    ensures { IfOk result (λ bytes. bytes.items ≡ created_reply form.now name.now version.now (option_copied preference.entry)) }
+    ensures { IfOk result (λ bytes. bytes.items ≡ created_reply account.now minimal name.now version.now (option_copied preference.entry)) }
 {
-    let body = write_version(alloc, form.account.as_str(), name, version, &form.json)?;
+    let form = JsonForm {
+        minimal,
+        select: Select::All,
+    };
+    let body = write_version(alloc, account, name, version, &form)?;
     let etag = etag(alloc, version)?;
-    let kind = json_type(form.json.minimal);
+    let kind = json_type(minimal);
     created_text(alloc, kind, etag.as_str(), preference, body.as_str())
 }
 
@@ -234,46 +338,83 @@ fn etag_of(alloc: Global, tick: u64) -> Result<String, Memory>
 }
 
 #[tactic(auto, unfolding(crate::specs::Replies::denied_reply))]
-fn denied_reply(alloc: Global, why: Denied) -> Result<Vec<u8>, Memory>
-    requires { IsTimelyDenial why }
-    ensures { IfOk result (λ bytes. bytes.items ≡ denied_reply why) }
+fn denied_reply(alloc: Global, batch: bool, ask: &Ask, why: Denied) -> Result<Vec<u8>, Memory>
+    requires { SuitsDenial batch ask.now why }
+    ensures { IfOk result (λ bytes. bytes.items ≡ denied_reply batch why) }
 {
     match why {
-        Denied::NotFound => not_there(alloc),
-        Denied::Op(refused) => refused_reply(alloc, refused),
-        Denied::TimeSpent => fault_reply(alloc, 500, "TimeSpent", "The last moment is reached."),
+        Denied::NoTable => no_table(alloc, place_in(batch, 0)),
+        Denied::TableThere => fault_bytes(
+            alloc,
+            409,
+            "TableAlreadyExists",
+            "The table is there already.",
+        ),
+        Denied::NotFound => fault_bytes(alloc, 404, "ResourceNotFound", "The entity is not there."),
+        Denied::Op(refused) => refused_reply(alloc, batch, ask, refused),
+        Denied::TimeSpent => fault_bytes(alloc, 500, "TimeSpent", "The last moment is reached."),
+        Denied::IdsSpent => fault_bytes(alloc, 500, "IdsSpent", "No table number is left."),
         Denied::Memory => memory_bytes(alloc),
     }
 }
 
-fn not_there(alloc: Global) -> Result<Vec<u8>, Memory>
-    ensures { IfOk result (λ bytes. bytes.items ≡ not_there) }
+fn no_table(alloc: Global, place: Option<usize>) -> Result<Vec<u8>, Memory>
+    ensures { IfOk result (λ bytes. bytes.items ≡ told_at place cause.no_table) }
 {
-    fault_reply(alloc, 404, "ResourceNotFound", "The entity is not there.")
+    fault_reply(
+        alloc,
+        place,
+        404,
+        "TableNotFound",
+        "The table is not there.",
+    )
+}
+
+/// The place of an operation, where it is one of a batch.
+fn place_in(batch: bool, index: usize) -> Option<usize>
+    ensures { result ≡ place_in batch index }
+{
+    if batch { Some(index) } else { None }
 }
 
 #[tactic(auto, unfolding(crate::specs::Replies::refused_reply))]
-fn refused_reply(alloc: Global, refused: OpRefused) -> Result<Vec<u8>, Memory>
-    requires { IsTimely refused }
-    ensures { IfOk result (λ bytes. bytes.items ≡ refused_reply refused) }
+fn refused_reply(
+    alloc: Global,
+    batch: bool,
+    ask: &Ask,
+    refused: OpRefused,
+) -> Result<Vec<u8>, Memory>
+    requires { SuitsRefusal ask.now refused }
+    ensures { IfOk result (λ bytes. bytes.items ≡ refused_reply batch refused) }
 {
     match refused {
-        OpRefused::AlreadyThere { .. } => fault_reply(
+        OpRefused::AlreadyThere { index } => fault_reply(
             alloc,
+            place_in(batch, index),
             409,
             "EntityAlreadyExists",
             "The entity is there already.",
         ),
-        OpRefused::NotThere { .. } => not_there(alloc),
-        OpRefused::Condition { tick, .. } => condition_reply(alloc, tick),
-        OpRefused::TooMany { .. } => fault_reply(
+        OpRefused::NotThere { index } => fault_reply(
             alloc,
+            place_in(batch, index),
+            404,
+            "ResourceNotFound",
+            "The entity is not there.",
+        ),
+        OpRefused::Condition { index, tick } => {
+            condition_reply(alloc, place_in(batch, index), tick)
+        }
+        OpRefused::TooMany { index } => fault_reply(
+            alloc,
+            place_in(batch, index),
             400,
             "TooManyProperties",
             "An entity has at most 252 properties.",
         ),
-        OpRefused::TooLarge { .. } => fault_reply(
+        OpRefused::TooLarge { index } => fault_reply(
             alloc,
+            place_in(batch, index),
             400,
             "EntityTooLarge",
             "An entity has at most 1048576 bytes.",
@@ -283,30 +424,67 @@ fn refused_reply(alloc: Global, refused: OpRefused) -> Result<Vec<u8>, Memory>
 }
 
 /// The reply to an operation that wants another version than the kept one.
-fn condition_reply(alloc: Global, tick: u64) -> Result<Vec<u8>, Memory>
+fn condition_reply(alloc: Global, place: Option<usize>, tick: u64) -> Result<Vec<u8>, Memory>
     requires { tick ≤ GREATEST }
-    ensures { IfOk result (λ bytes. bytes.items
-        ≡ fault_reply 412 (codes "UpdateConditionNotSatisfied") (codes "The kept version is " ++ text_of_etag tick ++ codes ".")) }
+    ensures { IfOk result (λ bytes. bytes.items ≡ told_at place (cause.other_version (text_of_etag tick))) }
 {
     let etag = etag_of(alloc, tick)?;
     let text = around(alloc, "The kept version is ", etag.as_str(), ".")?;
-    fault_reply(alloc, 412, "UpdateConditionNotSatisfied", text.as_str())
+    fault_reply(
+        alloc,
+        place,
+        412,
+        "UpdateConditionNotSatisfied",
+        text.as_str(),
+    )
 }
 
 /// The type of a body with minimal metadata, or with none.
-fn json_type(minimal: bool) -> &'static str
+pub(crate) fn json_type(minimal: bool) -> &'static str
     ensures { result.now ≡ json_type minimal }
 {
     if minimal { MINIMAL_JSON } else { PLAIN_JSON }
 }
 
-#[tactic(auto, unfolding(crate::specs::Replies::fault_reply))]
+/// The reply by a cause: to the whole request, or as the only part of the reply to a batch.
+#[tactic(auto, unfolding(crate::specs::Replies::fault_at))]
 pub(crate) fn fault_reply(
     alloc: Global,
+    place: Option<usize>,
     status: u16,
     code: &str,
     text: &str,
 ) -> Result<Vec<u8>, Memory>
+    requires { IsStatusCode status }
+    ensures { IfOk result (λ bytes. bytes.items ≡ fault_at place status code.now text.now) }
+{
+    match place {
+        None => fault_bytes(alloc, status, code, text),
+        Some(index) => {
+            let text = placed_text(alloc, index, text)?;
+            let part = fault_bytes(alloc, status, code, text.as_str())?;
+            batch_reply(alloc, &[part])
+        }
+    }
+}
+
+/// The text behind the place of the operation that it is of.
+fn placed_text(alloc: Global, index: usize, text: &str) -> Result<String, Memory>
+    ensures { IfOk result (λ placed. string_bytes placed ≡ placed_text index text.now) }
+{
+    let index = index.to_string(alloc).map_err(|_| Memory)?;
+    around(alloc, index.as_str(), ":", text)
+}
+
+/// The reply that no memory was found, in the place of one by another cause.
+pub(crate) fn memory_fault(alloc: Global, place: Option<usize>) -> Result<Vec<u8>, Memory>
+    ensures { IfOk result (λ bytes. bytes.items ≡ told_at place cause.no_memory) }
+{
+    fault_reply(alloc, place, 507, "OutOfMemory", "No memory was found.")
+}
+
+#[tactic(auto, unfolding(crate::specs::Replies::fault_reply))]
+fn fault_bytes(alloc: Global, status: u16, code: &str, text: &str) -> Result<Vec<u8>, Memory>
     requires { IsStatusCode status }
     ensures { IfOk result (λ bytes. bytes.items ≡ fault_reply status code.now text.now) }
 {
@@ -314,8 +492,19 @@ pub(crate) fn fault_reply(
     reply_with_body(alloc, status, JSON, &[], body.as_str())
 }
 
+/// The reply to a batch, from the replies to its operations.
+#[tactic(auto, unfolding(crate::specs::Replies::batch_reply))]
+fn batch_reply(alloc: Global, replies: &[Vec<u8>]) -> Result<Vec<u8>, Memory>
+    ensures { IfOk result (λ bytes. bytes.items ≡ batch_reply (map vec_items replies.now)) }
+{
+    let Ok(body) = write_batch(alloc, replies) else {
+        return Err(Memory);
+    };
+    joined(alloc, 202, BATCH, &[], &body).map_err(|_| Memory)
+}
+
 /// The head, to which the body is joined. More headers stand between those of the body and the version.
-fn reply_with_body(
+pub(crate) fn reply_with_body(
     alloc: Global,
     status: u16,
     kind: &str,
@@ -325,7 +514,7 @@ fn reply_with_body(
     requires { IsStatusCode status }
     ensures { IfOk result (λ bytes. bytes.items ≡ reply_with_body status kind.now (map (λ header. (header.0.now, header.1.now)) more.now) body.now) }
 {
-    joined(alloc, status, kind, more, body).map_err(|_| Memory)
+    joined(alloc, status, kind, more, body.as_bytes()).map_err(|_| Memory)
 }
 
 #[tactic(auto, unfolding(crate::specs::Replies::reply_with_body))]
@@ -334,14 +523,14 @@ fn joined(
     status: u16,
     kind: &str,
     more: &[(&str, &str)],
-    body: &str,
+    body: &[u8],
 ) -> Result<Vec<u8>, AllocError>
     requires { IsStatusCode status }
     ensures { IfOk result (λ bytes. bytes.items ≡ reply_with_body status kind.now (map (λ header. (header.0.now, header.1.now)) more.now) body.now) }
 {
     let head = head_text(alloc, status, body.len(), kind, more)?;
     let mut bytes = head.into_bytes();
-    bytes.extend_from_slice(body.as_bytes())?;
+    bytes.extend_from_slice(body)?;
     Ok(bytes)
 }
 

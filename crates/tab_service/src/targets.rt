@@ -1,20 +1,30 @@
 ghost use Rattle.std.specs.Prelude.{◌≡◌, IfOk, option_map, vec_items};
 ghost use Rattle.std.specs.List.{list_any};
 ghost use Rattle.std.specs.Option.{option_copied};
-ghost use Rattle.tab_service.specs.Targets.{path_of, query_of, behind, path_behind, ends_segment, one_segment, segment_in, decoded, text_of, quoted, doubled_quote, first_inside, past_quote, value_named, without_spaces, row_key_behind, keys_in, row_at, resource_behind, resource_of, resource_in};
+ghost use Rattle.tab_service.specs.Targets.{path_of, query_of, behind, path_behind, ends_segment, one_segment, segment_in, decoded, text_of, quoted, doubled_quote, first_inside, past_quote, value_named, without_spaces, row_key_behind, keys_in, is_tables, name_quoted, before_mark, parted, quoted_table, is_name_place, row_at, in_parentheses, address_of, resource_of, resource_in};
+ghost use Rattle.tab_service.specs.Requests.{resource_at};
 
+use crate::Refusal;
+use crate::queries::owned;
 use percent_encoding::{DecodeError, percent_decode};
 use std::alloc::Global;
 use tab_edm::TextValue;
+use tab_http::Message;
 use tab_keys::Memory;
 
-/// What a target names.
+/// What a target names, with the texts that stand for a table's name and for keys.
 #[derive(Debug, Drop)]
 pub enum Resource {
-    /// The rows of the table.
-    Rows,
-    /// The row of these keys.
-    Row(TextValue, TextValue),
+    /// The list of tables.
+    Tables,
+    /// The table of this name.
+    Table(TextValue),
+    /// The rows of the table of this name.
+    Rows(TextValue),
+    /// The row of the table of this name at these keys.
+    Row(TextValue, TextValue, TextValue),
+    /// The place for batches.
+    Batch,
 }
 
 /// The path of a target, and the query behind it.
@@ -29,19 +39,30 @@ pub(crate) fn split_target(target: &str) -> (&str, &str)
     }
 }
 
-/// The resource that a path names, if it is one of this account.
-#[tactic(auto, unfolding(crate::specs::Targets::resource_in))]
-pub(crate) fn resource_in(
+/// The resource that the path of a message names, or that it names none.
+pub(crate) fn resource_at(
     alloc: Global,
     account: &str,
-    path: &str,
-) -> Result<Option<Resource>, Memory>
+    message: &Message,
+) -> Result<Result<Resource, Refusal>, Memory>
+    ensures { IfOk result (λ found. found ≡ resource_at account.now message.now) }
+{
+    let (path, _) = split_target(message.target.as_str());
+    match resource_in(alloc, account, path)? {
+        Some(resource) => Ok(Ok(resource)),
+        None => Ok(Err(Refusal::Path)),
+    }
+}
+
+/// The resource that a path names, if it is one of this account.
+#[tactic(auto, unfolding(crate::specs::Targets::resource_in))]
+fn resource_in(alloc: Global, account: &str, path: &str) -> Result<Option<Resource>, Memory>
     ensures { IfOk result (λ found. found ≡ resource_in account.now path.now) }
 {
     let Some(segment) = segment_in(alloc, account.as_bytes(), path.as_bytes())? else {
         return Ok(None);
     };
-    resource_of(alloc, segment.as_str().as_bytes())
+    resource_of(alloc, segment.as_str())
 }
 
 /// The one segment behind that of the account, decoded.
@@ -93,37 +114,117 @@ fn decoded(alloc: Global, segment: &[u8]) -> Result<Option<TextValue>, Memory>
     }
 }
 
+// ---- resources
+
 /// What a segment names.
 #[tactic(auto, unfolding(crate::specs::Targets::resource_of))]
-fn resource_of(alloc: Global, segment: &[u8]) -> Result<Option<Resource>, Memory>
+fn resource_of(alloc: Global, segment: &str) -> Result<Option<Resource>, Memory>
     ensures { IfOk result (λ found. found ≡ resource_of segment.now) }
 {
-    let Some(rest) = behind(b"Goods", segment) else {
-        return Ok(None);
-    };
-    resource_behind(alloc, rest)
+    if is_tables(segment) {
+        return Ok(Some(Resource::Tables));
+    }
+    if segment == "$batch" {
+        return Ok(Some(Resource::Batch));
+    }
+    match quoted_table(segment) {
+        Some(name) => Ok(Some(Resource::Table(owned(alloc, name)?))),
+        None => address_of(alloc, segment),
+    }
 }
 
-fn resource_behind(alloc: Global, rest: &[u8]) -> Result<Option<Resource>, Memory>
-    ensures { IfOk result (λ found. found ≡ resource_behind rest.now) }
+/// Whether a segment names the list of tables.
+#[tactic(auto, unfolding(crate::specs::Targets::is_tables))]
+fn is_tables(segment: &str) -> bool
+    ensures { result ≡ is_tables segment.now }
 {
-    if rest.is_empty() || rest == b"()".as_slice() {
-        return Ok(Some(Resource::Rows));
+    segment.eq_ignore_ascii_case("tables") || segment.eq_ignore_ascii_case("tables()")
+}
+
+/// The NAME of `Tables('NAME')`.
+#[tactic(auto, unfolding(crate::specs::Targets::quoted_table))]
+fn quoted_table(segment: &str) -> Option<&str>
+    ensures { option_copied result ≡ quoted_table segment.now }
+{
+    let (front, rest) = segment.split_once('\'')?;
+    name_quoted(front, rest)
+}
+
+fn name_quoted<'t>(front: &str, rest: &'t str) -> Option<&'t str>
+    ensures { option_copied result ≡ name_quoted (front.now, rest.now) }
+{
+    if front.eq_ignore_ascii_case("tables(") {
+        before_mark("')", rest)
+    } else {
+        None
     }
-    match keys_in(alloc, rest)? {
-        Some((pk, rk)) => Ok(row_at(pk, rk)),
+}
+
+/// The text before this mark, if that ends it.
+fn before_mark<'t>(mark: &str, text: &'t str) -> Option<&'t str>
+    ensures { option_copied result ≡ before_mark mark.now text.now }
+{
+    text.strip_suffix(mark)
+}
+
+/// The rows of a table, or one of them.
+#[tactic(auto, unfolding(crate::specs::Targets::address_of))]
+fn address_of(alloc: Global, segment: &str) -> Result<Option<Resource>, Memory>
+    ensures { IfOk result (λ found. found ≡ address_of segment.now) }
+{
+    if !is_name_place(segment.as_bytes()) {
+        return Ok(None);
+    }
+    match opened(segment) {
+        Some((name, arguments)) => in_parentheses(alloc, name, arguments),
+        None => Ok(Some(Resource::Rows(owned(alloc, segment)?))),
+    }
+}
+
+/// What is before and behind the first parenthesis.
+fn opened(segment: &str) -> Option<(&str, &str)>
+    ensures { option_map (λ parts. (parts.0.now, parts.1.now)) result ≡ parted 40 segment.now }
+{
+    segment.split_once('(')
+}
+
+/// Whether a table's name may stand at the front of a segment.
+#[tactic(auto, unfolding(crate::specs::Targets::is_name_place))]
+fn is_name_place(segment: &[u8]) -> bool
+    ensures { result ≡ is_name_place segment.now }
+{
+    match segment {
+        [] => false,
+        [first, ..] => *first != b'$' && *first != b'(',
+    }
+}
+
+fn in_parentheses(alloc: Global, name: &str, arguments: &str) -> Result<Option<Resource>, Memory>
+    ensures { IfOk result (λ found. found ≡ in_parentheses (name.now, arguments.now)) }
+{
+    if arguments == ")" {
+        return Ok(Some(Resource::Rows(owned(alloc, name)?)));
+    }
+    match keys_in(alloc, arguments.as_bytes())? {
+        Some((pk, rk)) => row_at(alloc, name, pk, rk),
         None => Ok(None),
     }
 }
 
 /// The row of two keys, if they are texts.
-fn row_at(pk: Vec<u8>, rk: Vec<u8>) -> Option<Resource>
-    ensures { result ≡ row_at (pk.items, rk.items) }
+fn row_at(alloc: Global, name: &str, pk: Vec<u8>, rk: Vec<u8>) -> Result<Option<Resource>, Memory>
+    ensures { IfOk result (λ found. found ≡ row_at name.now (pk.items, rk.items)) }
 {
-    let pk = text_of(pk)?;
-    let rk = text_of(rk)?;
-    Some(Resource::Row(pk, rk))
+    let Some(pk) = text_of(pk) else {
+        return Ok(None);
+    };
+    let Some(rk) = text_of(rk) else {
+        return Ok(None);
+    };
+    Ok(Some(Resource::Row(owned(alloc, name)?, pk, rk)))
 }
+
+// ---- the keys of a row
 
 fn text_of(bytes: Vec<u8>) -> Option<TextValue>
     ensures { result ≡ text_of bytes.items }
@@ -134,12 +235,12 @@ fn text_of(bytes: Vec<u8>) -> Option<TextValue>
     }
 }
 
-/// The two keys of an address, behind its name.
+/// The two keys of an address, behind its name and the parenthesis.
 #[tactic(auto, unfolding(crate::specs::Targets::keys_in))]
 fn keys_in(alloc: Global, text: &[u8]) -> Result<Option<(Vec<u8>, Vec<u8>)>, Memory>
     ensures { IfOk result (λ found. option_map (λ keys. (keys.0.items, keys.1.items)) found ≡ keys_in text.now) }
 {
-    match value_named(alloc, b"(PartitionKey='", text)? {
+    match value_named(alloc, b"PartitionKey='", text)? {
         Some((pk, rest)) => row_key_behind(alloc, pk, rest),
         None => Ok(None),
     }

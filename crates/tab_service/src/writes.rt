@@ -2,18 +2,18 @@ ghost use Rattle.std.specs.Prelude.{◌≡◌, IfOk, length};
 ghost use Rattle.tab_keys.specs.KeyTexts.{units_of};
 ghost use Rattle.tab_edm.specs.Entities.{made};
 ghost use Rattle.tab_ops.specs.Groups.{IsMadeFor};
-ghost use Rattle.tab_service.specs.Requests.{change_request, read_body, entity_unless, entity_for, given_keys, insert_from, op_for, write_from, decided_insert, decided_write, decided_delete};
+ghost use Rattle.tab_service.specs.Requests.{is_insert, is_delete, change_part, change_request, single, read_body, entity_unless, entity_for, given_keys, insert_from, op_for, write_from, decided_insert, decided_write, decided_delete, change_in_rows, change_of_row};
 
 use crate::conditions::{condition_for, needed_condition};
-use crate::preferences::{format_for, preference_for};
-use crate::reads::{form_of, goods, row_keys};
-use crate::{Prefer, Refusal, Request};
+use crate::preferences::{format_for, format_with_body, preference_for};
+use crate::reads::form_of;
+use crate::{PartForm, Prefer, Refusal, Request};
 use std::alloc::Global;
 use tab_edm::{EdmRefused, Entity};
 use tab_history::Ask;
-use tab_http::Header;
+use tab_http::{Header, Message};
 use tab_json::{BodyEntity, JsonRefused, Properties, read_entity};
-use tab_keys::{KeyText, Memory};
+use tab_keys::{KeyText, Memory, TableName};
 use tab_ops::{Group, Item, Match, Op};
 use tab_page::Select;
 
@@ -26,35 +26,41 @@ pub enum Writing {
     Merging,
 }
 
-/// The request for an insert, or why it is refused.
+/// An operation on a row, and how its reply is wanted.
+#[derive(Debug, Drop)]
+pub struct Part {
+    pub item: Item,
+    pub form: PartForm,
+}
+
+/// The insert that is asked for, or why it is refused.
 #[tactic(auto, unfolding(crate::specs::Requests::decided_insert))]
-pub(crate) fn decided_insert(
+fn decided_insert(
     alloc: Global,
-    account: &str,
     headers: &[Header],
+    name: TableName,
     body: &[u8],
-) -> Result<Result<Request, Refusal>, Memory>
-    ensures { IfOk result (λ decided. decided ≡ decided_insert account.now headers.now body.now) }
+) -> Result<Result<Part, Refusal>, Memory>
+    ensures { IfOk result (λ decided. decided ≡ decided_insert headers.now name body.now) }
 {
-    let minimal = match format_for(alloc, headers)? {
+    let minimal = match format_with_body(alloc, headers)? {
         Ok(minimal) => minimal,
         Err(why) => return Ok(Err(why)),
     };
     match read_body(alloc, body)? {
-        Ok(body) => insert_from(alloc, account, minimal, preference_for(headers), body),
+        Ok(body) => insert_from(minimal, preference_for(headers), name, body),
         Err(why) => Ok(Err(why)),
     }
 }
 
 /// The insert of the entity that a body gives.
 fn insert_from(
-    alloc: Global,
-    account: &str,
     minimal: bool,
     prefer: Prefer,
+    name: TableName,
     body: BodyEntity,
-) -> Result<Result<Request, Refusal>, Memory>
-    ensures { IfOk result (λ decided. decided ≡ insert_from account.now minimal prefer body) }
+) -> Result<Result<Part, Refusal>, Memory>
+    ensures { IfOk result (λ decided. decided ≡ insert_from minimal prefer name body) }
 {
     let BodyEntity { pk, rk, properties } = body;
     let Some(pk) = pk else {
@@ -64,36 +70,27 @@ fn insert_from(
         return Ok(Err(Refusal::KeysMissing));
     };
     match entity_for(&pk, &rk, properties)? {
-        Ok(entity) => Ok(Ok(change_request(
-            alloc,
-            account,
-            minimal,
-            prefer,
-            (pk, rk),
-            Op::Insert(entity),
-        )?)),
+        Ok(entity) => {
+            let op = Op::Insert(entity);
+            Ok(Ok(change_part(minimal, prefer, name, (pk, rk), op)))
+        }
         Err(why) => Ok(Err(why)),
     }
 }
 
-/// The request for a write of one row, or why it is refused.
+/// The write of one row that is asked for, or why it is refused.
 #[tactic(auto, unfolding(crate::specs::Requests::decided_write))]
-pub(crate) fn decided_write(
+fn decided_write(
     alloc: Global,
-    account: &str,
     headers: &[Header],
-    pk: &str,
-    rk: &str,
+    name: TableName,
+    keys: (KeyText, KeyText),
     writing: Writing,
     body: &[u8],
-) -> Result<Result<Request, Refusal>, Memory>
-    ensures { IfOk result (λ decided. decided ≡ decided_write account.now headers.now pk.now rk.now writing body.now) }
+) -> Result<Result<Part, Refusal>, Memory>
+    ensures { IfOk result (λ decided. decided ≡ decided_write headers.now name keys writing body.now) }
 {
-    let keys = match row_keys(alloc, pk, rk)? {
-        Ok(keys) => keys,
-        Err(why) => return Ok(Err(why)),
-    };
-    let minimal = match format_for(alloc, headers)? {
+    let minimal = match format_with_body(alloc, headers)? {
         Ok(minimal) => minimal,
         Err(why) => return Ok(Err(why)),
     };
@@ -102,29 +99,27 @@ pub(crate) fn decided_write(
         Err(why) => return Ok(Err(why)),
     };
     match read_body(alloc, body)? {
-        Ok(body) => write_from(alloc, account, minimal, writing, keys, condition, body),
+        Ok(body) => write_from(minimal, writing, name, keys, condition, body),
         Err(why) => Ok(Err(why)),
     }
 }
 
 /// The write of the entity that a body gives.
 fn write_from(
-    alloc: Global,
-    account: &str,
     minimal: bool,
     writing: Writing,
+    name: TableName,
     keys: (KeyText, KeyText),
     condition: Option<Match>,
     body: BodyEntity,
-) -> Result<Result<Request, Refusal>, Memory>
-    ensures { IfOk result (λ decided. decided ≡ write_from account.now minimal writing keys condition body) }
+) -> Result<Result<Part, Refusal>, Memory>
+    ensures { IfOk result (λ decided. decided ≡ write_from minimal writing name keys condition body) }
 {
     let (pk, rk) = keys;
     match entity_for(&pk, &rk, body.properties)? {
         Ok(entity) => {
             let op = op_for(writing, entity, condition);
-            let request = change_request(alloc, account, minimal, Prefer::Unsaid, (pk, rk), op)?;
-            Ok(Ok(request))
+            Ok(Ok(change_part(minimal, Prefer::Unsaid, name, (pk, rk), op)))
         }
         Err(why) => Ok(Err(why)),
     }
@@ -146,21 +141,16 @@ fn op_for(writing: Writing, entity: Entity, condition: Option<Match>) -> Op
     }
 }
 
-/// The request for a delete of one row, or why it is refused.
+/// The delete of one row that is asked for, or why it is refused.
 #[tactic(auto, unfolding(crate::specs::Requests::decided_delete))]
-pub(crate) fn decided_delete(
+fn decided_delete(
     alloc: Global,
-    account: &str,
     headers: &[Header],
-    pk: &str,
-    rk: &str,
-) -> Result<Result<Request, Refusal>, Memory>
-    ensures { IfOk result (λ decided. decided ≡ decided_delete account.now headers.now pk.now rk.now) }
+    name: TableName,
+    keys: (KeyText, KeyText),
+) -> Result<Result<Part, Refusal>, Memory>
+    ensures { IfOk result (λ decided. decided ≡ decided_delete headers.now name keys) }
 {
-    let keys = match row_keys(alloc, pk, rk)? {
-        Ok(keys) => keys,
-        Err(why) => return Ok(Err(why)),
-    };
     let minimal = match format_for(alloc, headers)? {
         Ok(minimal) => minimal,
         Err(why) => return Ok(Err(why)),
@@ -170,14 +160,10 @@ pub(crate) fn decided_delete(
         Err(why) => return Ok(Err(why)),
     };
     match needed_condition(found) {
-        Ok(condition) => Ok(Ok(change_request(
-            alloc,
-            account,
-            minimal,
-            Prefer::Unsaid,
-            keys,
-            Op::Delete(condition),
-        )?)),
+        Ok(condition) => {
+            let op = Op::Delete(condition);
+            Ok(Ok(change_part(minimal, Prefer::Unsaid, name, keys, op)))
+        }
         Err(why) => Ok(Err(why)),
     }
 }
@@ -210,21 +196,106 @@ fn entity_for(
     }
 }
 
-fn change_request(
-    alloc: Global,
-    account: &str,
+fn change_part(
     minimal: bool,
     prefer: Prefer,
+    name: TableName,
     keys: (KeyText, KeyText),
     op: Op,
-) -> Result<Request, Memory>
+) -> Part
     requires { IsMadeFor (length (units_of keys.0)) (length (units_of keys.1)) op }
-    ensures { IfOk result (λ request. request ≡ change_request account.now minimal prefer keys op) }
+    ensures { result ≡ change_part minimal prefer name keys op }
 {
     let (pk, rk) = keys;
-    let name = goods(alloc)?;
-    let form = form_of(alloc, account, minimal, Select::All, prefer)?;
-    let group = Group::of(alloc, Item { name, pk, rk, op })?;
+    let form = PartForm {
+        insert: is_insert(&op),
+        delete: is_delete(&op),
+        minimal,
+        prefer,
+    };
+    Part {
+        item: Item { name, pk, rk, op },
+        form,
+    }
+}
+
+fn is_insert(op: &Op) -> bool
+    ensures { result ≡ is_insert op.now }
+{
+    matches!(op, Op::Insert(_))
+}
+
+fn is_delete(op: &Op) -> bool
+    ensures { result ≡ is_delete op.now }
+{
+    matches!(op, Op::Delete(_))
+}
+
+// ---- operations by method
+
+/// The operation that is asked for in a table's rows.
+#[tactic(auto, unfolding(crate::specs::Requests::change_in_rows))]
+pub(crate) fn change_in_rows(
+    alloc: Global,
+    message: &Message,
+    name: TableName,
+) -> Result<Result<Part, Refusal>, Memory>
+    ensures { IfOk result (λ found. found ≡ change_in_rows message.now name) }
+{
+    if message.method.as_str() == "POST" {
+        let headers = message.headers.as_slice();
+        decided_insert(alloc, headers, name, message.body.as_slice())
+    } else {
+        Ok(Err(Refusal::Method))
+    }
+}
+
+/// The operation that is asked for on one row. The method PATCH is MERGE.
+#[tactic(auto, unfolding(crate::specs::Requests::change_of_row))]
+pub(crate) fn change_of_row(
+    alloc: Global,
+    message: &Message,
+    name: TableName,
+    keys: (KeyText, KeyText),
+) -> Result<Result<Part, Refusal>, Memory>
+    ensures { IfOk result (λ found. found ≡ change_of_row message.now name keys) }
+{
+    let method = message.method.as_str();
+    let headers = message.headers.as_slice();
+    let body = message.body.as_slice();
+    if method == "PUT" {
+        decided_write(alloc, headers, name, keys, Writing::Replacing, body)
+    } else if method == "MERGE" || method == "PATCH" {
+        decided_write(alloc, headers, name, keys, Writing::Merging, body)
+    } else if method == "DELETE" {
+        decided_delete(alloc, headers, name, keys)
+    } else {
+        Ok(Err(Refusal::Method))
+    }
+}
+
+// ---- requests
+
+/// The request for one operation, or why it is refused.
+pub(crate) fn single(
+    alloc: Global,
+    account: &str,
+    part: Result<Part, Refusal>,
+) -> Result<Result<Request, Refusal>, Memory>
+    ensures { IfOk result (λ request. request ≡ single account.now part) }
+{
+    match part {
+        Ok(part) => Ok(Ok(change_request(alloc, account, part)?)),
+        Err(why) => Ok(Err(why)),
+    }
+}
+
+fn change_request(alloc: Global, account: &str, part: Part) -> Result<Request, Memory>
+    ensures { IfOk result (λ request. request ≡ change_request account.now part) }
+{
+    let Part { item, form } = part;
+    let form = form_of(alloc, account, Select::All, form)?;
+    let group = Group::of(alloc, item)?;
     Ok(Request {
         ask: Ask::Change { group },
         form,

@@ -1,6 +1,6 @@
 use Rattle.std.proofs.Common.{◌∙◌, ◌++◌, ap, codes}
 use Rattle.std.proofs.lemmas.Result.{IfOk-weaker}
-use Rattle.tab_service.specs.Replies.{fault_reply}
+use Rattle.tab_service.specs.Replies.{fault_at}
 use Rattle.tab_service.specs.Refusals.{body_fault}
 use Rattle.tab_service.proofs.refusals.body_fault.Goals as goal
 
@@ -11,6 +11,6 @@ returns-in_ok-text-in-ValueType c =
     (IfOk-weaker c.fault_reply.result _ _
     (λ bytes written.
     written
-    ∙ ap (fault_reply 400 (codes "InvalidValueType"))
+    ∙ ap (fault_at c.args.place 400 (codes "InvalidValueType"))
     (c.as_str-in-ValueType.ensures.value ∙ c.in_ok-text-in-ValueType.ensures ∙ ap (λ name. codes "The value of " ++ name ++ codes " is not of its type.") c.as_str.ensures.text))
     c.fault_reply.ensures)

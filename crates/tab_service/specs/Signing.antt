@@ -1,0 +1,38 @@
+-- What of a message its sender signs.
+use Rattle.std.specs.Prelude.{ℕ, List, [], ◌∷◌, Option, Some, None, option_and_then, if◌then◌else◌, codes}
+use Rattle.std.specs.Option.{option_or}
+use Rattle.std.specs.List.{list_any}
+use Rattle.form_urlencoded.specs.Form.{raw_pairs}
+use Rattle.tab_auth.specs.declared.checks.Signed.{Signed}
+use Rattle.tab_http.specs.Headers.{is_named, first_value}
+use Rattle.tab_http.specs.declared.messages.Header.{Header}
+use Rattle.tab_http.specs.declared.messages.Message.{Message}
+use Rattle.tab_page.specs.Queries.{values}
+use Rattle.tab_service.specs.Targets.{path_of, query_of, text_of}
+
+-- the value of the one header of that name, and none where there are more
+unfoldable pub sole_value : List ℕ → List Header → Option (List ℕ)
+sole_value name [] = None
+sole_value name (header ∷ headers) =
+    if is_named name header then (if list_any (is_named name) headers then None else Some header.value) else sole_value name headers
+
+-- the header that counts as the date
+abbrev pub date_value : List Header → Option (List ℕ)
+date_value headers = option_or (first_value (codes "x-ms-date") headers) (first_value (codes "date") headers)
+
+abbrev pub first_of : List (List ℕ) → Option (List ℕ)
+first_of [] = None
+first_of (value ∷ later) = Some value
+
+-- the first value of `comp` in a query
+unfoldable pub comp_of : List ℕ → Option (List ℕ)
+comp_of query = first_of (values (codes "comp") (raw_pairs query))
+
+-- what is signed, and how: headers that are no texts count as absent
+unfoldable pub signed_of : Message → Signed
+signed_of message = record {
+  authorization = option_and_then text_of (sole_value (codes "authorization") message.headers);
+  date = option_and_then text_of (date_value message.headers);
+  path = path_of message.target;
+  comp = comp_of (query_of message.target);
+}

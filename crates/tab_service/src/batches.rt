@@ -1,0 +1,245 @@
+ghost use Rattle.std.specs.Prelude.{◌≡◌, [], ◌∷◌, ◌++◌, IfOk, OnOk, Ok};
+ghost use Rattle.std.specs.Option.{option_copied};
+ghost use Rattle.tab_service.specs.Batches.{part_on, part_of, operations_from, group_place, batch_form, request_for, grouped_request, unread, boundary_in, IsBatchOf};
+ghost use Rattle.tab_batch.specs.Refusals.{IsDecided};
+
+use crate::reads::row_keys;
+use crate::tables::table_name;
+use crate::targets::{Resource, resource_at};
+use crate::writes::{Part, change_in_rows, change_of_row};
+use crate::{Form, PartForm, PartForms, Refusal, Request};
+use std::alloc::Global;
+use std::marker::Model;
+use tab_batch::{BatchRefused, boundary_of, read_batch};
+use tab_edm::TextValue;
+use tab_history::Ask;
+use tab_http::{Message, first_value};
+use tab_json::JsonForm;
+use tab_keys::Memory;
+use tab_ops::{Group, GroupRefused, Item};
+use tab_page::Select;
+
+/// The place of the first operation behind as many as a group may have.
+const FIRST_TOO_MANY: usize = 100;
+
+/// Why a batch is refused.
+#[derive(Debug, Drop)]
+pub struct Refused {
+    /// The place of the part that is refused, or none where the batch is refused as a whole.
+    pub place: Option<usize>,
+    pub why: Refusal,
+}
+
+/// The request of a batch, or its first refusal.
+#[tactic(auto, unfolding(crate::specs::Batches::IsBatchOf))]
+pub(crate) fn batch_of(
+    alloc: Global,
+    account: &str,
+    minimal: bool,
+    message: &Message,
+) -> Result<Result<Request, Refused>, Memory>
+    ensures { IfOk result (IsBatchOf account.now minimal message.now) }
+{
+    let Some(boundary) = boundary_in(message) else {
+        return Ok(Err(Refused {
+            place: None,
+            why: Refusal::NoBoundary,
+        }));
+    };
+    match read_batch(alloc, boundary, message.body.as_slice()) {
+        Ok(messages) => batch_from(alloc, account, minimal, &messages),
+        Err(why) => Ok(Err(unread(why)?)),
+    }
+}
+
+/// The refusal of a batch whose requests are not read, where it was not for want of memory.
+fn unread(why: BatchRefused) -> Result<Refused, Memory>
+    ensures refused { IfOk result (λ refused. refused ≡ unread why) }
+    ensures decided { IfOk result (λ refused. IsDecided why) }
+{
+    let place = match why {
+        BatchRefused::BadMultipart { .. } => None,
+        BatchRefused::BadPart { index } => Some(index),
+        BatchRefused::Memory => return Err(Memory),
+    };
+    let why = Refusal::Multipart(why);
+    Ok(Refused { place, why })
+}
+
+/// The boundary that the first Content-Type header gives.
+fn boundary_in(message: &Message) -> Option<&[u8]>
+    ensures { option_copied result ≡ boundary_in message.now.headers }
+{
+    boundary_of(first_value(message.headers.as_slice(), "content-type")?)
+}
+
+/// The request of a batch with these parts.
+fn batch_from(
+    alloc: Global,
+    account: &str,
+    minimal: bool,
+    messages: &[Message],
+) -> Result<Result<Request, Refused>, Memory>
+    ensures { IfOk result (λ found. found ≡ grouped_request account.now minimal (operations_from 0 account.now messages.now)) }
+{
+    match operations_of(alloc, account, messages)? {
+        Ok(operations) => group_from(alloc, account, minimal, operations),
+        Err(refused) => Ok(Err(refused)),
+    }
+}
+
+// ---- operations
+
+/// Operations, and the forms of their parts.
+#[derive(Debug, Drop)]
+struct Operations {
+    items: Vec<Item>,
+    forms: Vec<PartForm>,
+}
+
+impl Model for Operations {
+    ghost use Rattle.std.specs.Prelude.{List, vec_items};
+    ghost use Rattle.tab_service.specs.Batches.{Operations};
+
+    ghost Value = { Operations };
+
+    ghost view = { λ operations. (operations.items.items, operations.forms.items) };
+}
+
+impl Operations {
+    fn new(alloc: Global) -> Operations
+        ensures { result ≡ ([], []) }
+    {
+        Operations {
+            items: Vec::new(alloc),
+            forms: Vec::new(alloc),
+        }
+    }
+
+    fn push(&mut self, part: Part) -> Result<(), Memory>
+        ensures { OnOk result (self.new ≡ (self.old.0 ++ part.item ∷ [], self.old.1 ++ part.form ∷ [])) }
+    {
+        let Part { item, form } = part;
+        let Ok(()) = self.items.push(item) else {
+            return Err(Memory);
+        };
+        let Ok(()) = self.forms.push(form) else {
+            return Err(Memory);
+        };
+        Ok(())
+    }
+}
+
+/// The operations of parts, or the refusal of the first that has one.
+fn operations_of(
+    alloc: Global,
+    account: &str,
+    messages: &[Message],
+) -> Result<Result<Operations, Refused>, Memory>
+    ensures { IfOk result (λ found. found ≡ operations_from 0 account.now messages.now) }
+{
+    let mut operations = Operations::new(alloc);
+    for (index, message) in messages.iter().enumerate() {
+        match part_of(alloc, account, message)? {
+            Ok(part) => operations.push(part)?,
+            Err(why) => {
+                let place = Some(index);
+                return Ok(Err(Refused { place, why }));
+            }
+        }
+    }
+    Ok(Ok(operations))
+}
+
+/// The operation that a part asks for.
+#[tactic(auto, unfolding(crate::specs::Batches::part_of))]
+fn part_of(alloc: Global, account: &str, message: &Message) -> Result<Result<Part, Refusal>, Memory>
+    ensures { IfOk result (λ part. part ≡ part_of account.now message.now) }
+{
+    match resource_at(alloc, account, message)? {
+        Ok(resource) => part_on(alloc, message, &resource),
+        Err(why) => Ok(Err(why)),
+    }
+}
+
+/// The operation that a part asks for on a resource: rows alone are changed in a batch.
+fn part_on(
+    alloc: Global,
+    message: &Message,
+    resource: &Resource,
+) -> Result<Result<Part, Refusal>, Memory>
+    ensures { IfOk result (λ part. part ≡ part_on message.now resource.now) }
+{
+    match resource {
+        Resource::Rows(name) => match table_name(alloc, name.as_str())? {
+            Ok(name) => change_in_rows(alloc, message, name),
+            Err(why) => Ok(Err(why)),
+        },
+        Resource::Row(name, pk, rk) => match table_name(alloc, name.as_str())? {
+            Ok(name) => match row_keys(alloc, pk.as_str(), rk.as_str())? {
+                Ok(keys) => change_of_row(alloc, message, name, keys),
+                Err(why) => Ok(Err(why)),
+            },
+            Err(why) => Ok(Err(why)),
+        },
+        Resource::Tables | Resource::Table(_) | Resource::Batch => Ok(Err(Refusal::Path)),
+    }
+}
+
+// ---- groups
+
+/// The request for operations as one group, or why they make none.
+fn group_from(
+    alloc: Global,
+    account: &str,
+    minimal: bool,
+    operations: Operations,
+) -> Result<Result<Request, Refused>, Memory>
+    ensures { IfOk result (λ found. found ≡ grouped_request account.now minimal (Ok operations)) }
+{
+    let Operations { items, forms } = operations;
+    match Group::new(items) {
+        Ok(group) => {
+            let form = batch_form(alloc, account, minimal, forms)?;
+            let ask = Ask::Change { group };
+            Ok(Ok(Request { ask, form }))
+        }
+        Err(GroupRefused::Memory) => Err(Memory),
+        Err(why) => Ok(Err(Refused {
+            place: group_place(why),
+            why: Refusal::Group(why),
+        })),
+    }
+}
+
+/// The place of the part for which operations make no group.
+fn group_place(why: GroupRefused) -> Option<usize>
+    ensures { result ≡ group_place why }
+{
+    match why {
+        GroupRefused::TooMany => Some(FIRST_TOO_MANY),
+        GroupRefused::MixedPartitions { index } | GroupRefused::DoubledRow { index } => Some(index),
+        GroupRefused::Empty | GroupRefused::Memory => None,
+    }
+}
+
+/// The form of a batch with these parts.
+fn batch_form(
+    alloc: Global,
+    account: &str,
+    minimal: bool,
+    parts: Vec<PartForm>,
+) -> Result<Form, Memory>
+    ensures { IfOk result (λ form. form ≡ batch_form account.now minimal parts.items) }
+{
+    let Ok(account) = String::from_str(alloc, account) else {
+        return Err(Memory);
+    };
+    let select = Select::All;
+    Ok(Form {
+        account: TextValue::new(account),
+        batch: true,
+        json: JsonForm { minimal, select },
+        parts: PartForms::new(parts),
+    })
+}

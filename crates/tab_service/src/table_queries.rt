@@ -1,0 +1,123 @@
+ghost use Rattle.std.specs.Prelude.{◌≡◌, Ok, Err, IfOk, MatchResult};
+ghost use Rattle.std.specs.Option.{option_copied};
+ghost use Rattle.tab_page.specs.Queries.{single};
+ghost use Rattle.tab_service.specs.TableQueries.{option_unless, count_of, after_of, name_unless_refused, unless_filtered, table_window};
+ghost use Rattle.tab_keys.specs.TableNames.{name_refusal};
+
+use crate::Refusal;
+use crate::queries::values_of;
+use std::alloc::Global;
+use tab_edm::TextValue;
+use tab_keys::{KeyText, Memory, NameRefused, TableName};
+use tab_page::{OptionRefused, Token, TokenRefused, read_top};
+
+/// The most tables that a list may have, and how many it may have where the query does not say.
+const MOST_TABLES: u16 = 1000;
+
+/// Which tables a query asks for.
+#[derive(Debug, Drop)]
+pub struct TableWindow {
+    /// The list begins with this name, or with the next one behind it.
+    pub after: Option<TableName>,
+    /// How many there may be.
+    pub top: u16,
+}
+
+/// Which tables a query asks for, or why it is refused.
+#[tactic(auto, unfolding(crate::specs::TableQueries::table_window, crate::specs::TableQueries::sole_option))]
+pub(crate) fn table_window(
+    alloc: Global,
+    query: &str,
+) -> Result<Result<TableWindow, Refusal>, Memory>
+    ensures { IfOk result (λ window. window ≡ table_window query.now) }
+{
+    let tops = values_of(alloc, "$top", query)?;
+    let top = match sole(&tops) {
+        Ok(top) => top,
+        Err(why) => return Ok(Err(why)),
+    };
+    let tokens = values_of(alloc, "NextTableName", query)?;
+    let token = match sole(&tokens) {
+        Ok(token) => token,
+        Err(why) => return Ok(Err(why)),
+    };
+    let top = match count_of(top) {
+        Ok(top) => top,
+        Err(why) => return Ok(Err(why)),
+    };
+    let after = match after_of(alloc, token)? {
+        Ok(after) => after,
+        Err(why) => return Ok(Err(why)),
+    };
+    let filters = values_of(alloc, "$filter", query)?;
+    Ok(unless_filtered(&filters, TableWindow { after, top }))
+}
+
+/// The one value of an option, if it has one.
+fn sole(values: &[TextValue]) -> Result<Option<&TextValue>, Refusal>
+    ensures { MatchResult result
+        (λ value. option_unless (single values.now) ≡ Ok (option_copied value))
+        (λ why. option_unless (single values.now) ≡ Err why) }
+{
+    match values {
+        [] => Ok(None),
+        [value] => Ok(Some(value)),
+        _ => Err(Refusal::Options(OptionRefused::BadOption)),
+    }
+}
+
+/// How many tables there may be.
+#[tactic(auto, unfolding(crate::specs::TableQueries::count_of))]
+fn count_of(top: Option<&TextValue>) -> Result<u16, Refusal>
+    ensures { MatchResult result
+        (λ count. count_of (option_copied top.entry) ≡ Ok count)
+        (λ why. count_of (option_copied top.entry) ≡ Err why) }
+{
+    let Some(top) = top else {
+        return Ok(MOST_TABLES);
+    };
+    match read_top(top.as_str().as_bytes()) {
+        Some(count) => Ok(count),
+        None => Err(Refusal::Options(OptionRefused::BadTop)),
+    }
+}
+
+/// The name that the list begins with, by its token.
+fn after_of(
+    alloc: Global,
+    token: Option<&TextValue>,
+) -> Result<Result<Option<TableName>, Refusal>, Memory>
+    ensures { IfOk result (λ after. after ≡ after_of (option_copied token.entry)) }
+{
+    let Some(token) = token else {
+        return Ok(Ok(None));
+    };
+    match Token::read(alloc, token.as_str()) {
+        Ok(name) => name_after(alloc, &name),
+        Err(TokenRefused::BadToken) => Ok(Err(Refusal::Options(OptionRefused::BadToken))),
+        Err(TokenRefused::Memory) => Err(Memory),
+    }
+}
+
+/// The table's name that the text of a token is.
+fn name_after(alloc: Global, text: &KeyText) -> Result<Result<Option<TableName>, Refusal>, Memory>
+    ensures { IfOk result (λ after. after ≡ name_unless_refused text.now (name_refusal text.now)) }
+{
+    match TableName::new(alloc, text.as_str()) {
+        Ok(name) => Ok(Ok(Some(name))),
+        Err(NameRefused::BadName | NameRefused::Reserved) => {
+            Ok(Err(Refusal::Options(OptionRefused::BadToken)))
+        }
+        Err(NameRefused::Memory) => Err(Memory),
+    }
+}
+
+/// The window, unless the query has a filter.
+fn unless_filtered(filters: &[TextValue], window: TableWindow) -> Result<TableWindow, Refusal>
+    ensures { result ≡ unless_filtered filters.now window }
+{
+    match filters {
+        [] => Ok(window),
+        _ => Err(Refusal::FilterOfTables),
+    }
+}
