@@ -1,28 +1,30 @@
 -- What every history over the first world gives.
-use Rattle.std.proofs.Common.{ℕ, List, zero, suc, get_or, arith, ◌<◌}
-use Rattle.tab_history.specs.World.{Named, IsWorld}
+use Rattle.std.proofs.Common.{List, arith}
+use Rattle.tab_history.specs.World.{IsWorld}
+use Rattle.tab_history.specs.Kept.{HasTablesBelow}
 use Rattle.tab_history.specs.Legality.{Legal}
 use Rattle.tab_history.specs.Followed.{FollowedWell, FollowedStill}
 use Rattle.tab_history.specs.Ticks.{TicksRise, TicksTellRows}
+use Rattle.tab_history.specs.Numbers.{NumbersRise, MadeNew, DropsHide}
 use Rattle.tab_history.specs.declared.entries.Entry.{Entry}
 use Rattle.tab_history.proofs.FollowedLaws.{followed_well}
 use Rattle.tab_history.proofs.StillLaws.{followed_still}
 use Rattle.tab_history.proofs.TickLaws.{ticks_rise, ticks_tell_rows}
+use Rattle.tab_history.proofs.NumberLaws.{numbers_rise, made_new, drops_hide}
 use Rattle.tab_drive.specs.Walk.{first_world, first_state}
 
-name_below : (k : ℕ) (d : Named) → k < 1 → (get_or first_world.names k d).table < 2
-name_below zero d within = omega arith
-name_below (suc k) d within = absurd (omega (arith, within))
-
-pub is_world : IsWorld first_world
+is_world : IsWorld first_world
 is_world = record {
-  names_rise = λ i j d less within. absurd (omega (arith, less, within));
-  numbers_differ = λ i j d less within. absurd (omega (arith, less, within));
-  names_below = name_below;
+  names_rise = λ i j d less within. absurd (omega (arith, within));
+  numbers_differ = λ i j d less within. absurd (omega (arith, within));
+  names_below = λ k d within. absurd (omega (arith, within));
   rows_rise = λ i j d less within. absurd (omega (arith, within));
   rows_below = λ k d within. absurd (omega (arith, within));
   ticks_below = λ k d within. absurd (omega (arith, within));
 }
+
+tables_below : HasTablesBelow first_state
+tables_below = λ k d within. absurd (omega (arith, within))
 
 pub gives_followed : (history : List Entry) → Legal first_state history → FollowedWell first_state history
 gives_followed history legal = followed_well first_state history is_world legal
@@ -35,3 +37,12 @@ tells_rows history legal = ticks_tell_rows first_state history is_world legal
 
 pub rises : (history : List Entry) → Legal first_state history → TicksRise history
 rises history legal = ticks_rise first_state history legal
+
+pub numbers : (history : List Entry) → Legal first_state history → NumbersRise history
+numbers history legal = numbers_rise first_state history legal
+
+pub made : (history : List Entry) → Legal first_state history → MadeNew first_state history
+made history legal = made_new first_state history is_world tables_below legal
+
+pub hides : (history : List Entry) → Legal first_state history → DropsHide first_state history
+hides history legal = drops_hide first_state history is_world tables_below legal

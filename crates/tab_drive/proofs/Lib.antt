@@ -1,6 +1,9 @@
 mod FirstWorld
 mod RangeLemmas
+mod TableLemmas
+mod TablePlaces
 pub mod Decimals
+pub mod Decisions
 pub mod Events
 pub mod Exits
 pub mod Fronts
@@ -10,8 +13,9 @@ pub mod OpenMessages
 pub mod Outcomes
 pub mod Spellings
 pub mod Told
+pub mod GroupPlaces
 pub mod WalkSteps
-mod ServedAsks
+pub mod Whole
 pub mod SessionSteps
 pub mod Turns
 pub mod Schedules

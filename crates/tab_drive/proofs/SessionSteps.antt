@@ -1,119 +1,179 @@
 -- What a session's steps add to a walk.
-use Rattle.std.proofs.Common.{◌≡◌, ℕ, ◌+◌, max, List, [], ◌∷◌, ◌++◌, length, refl, sym, ap, ◌∙◌, subst, arith, inl, inr, append-nil}
-use Rattle.std.specs.Prelude.{◌≤◌, Option, Some, None, IfSome}
-use Rattle.std.specs.Prelude.{Result, Ok, Err, IfOk, OnOk}
-use Rattle.tab_history.specs.declared.entries.Entry.{Entry}
-use Rattle.tab_edm.specs.declared.TheConstants.{GREATEST}
+use Rattle.std.proofs.Common.{◌≡◌, ℕ, ◌+◌, List, [], ◌++◌, refl, sym, ap, ◌∙◌, subst, inl, inr, append-nil, Bool, true, false}
+use Rattle.std.specs.Prelude.{◌⊎◌, Option, Some, None, Ok, Err}
+use Rattle.tab_auth.specs.declared.signatures.Keys.{Keys}
 use Rattle.tab_rows.specs.Rows.{RowView, row_at}
+use Rattle.tab_page.specs.declared.pages.Options.{Options}
+use Rattle.tab_http.specs.declared.messages.Message.{Message}
+use Rattle.tab_http.specs.declared.refusals.HttpRefused.{HttpRefused}
+use Rattle.tab_http.specs.declared.refusals.HttpRefused.TheVariants.{Memory as NoRoom}
 use Rattle.tab_ops.specs.Groups.{ItemView}
-use Rattle.tab_ops.specs.declared.plans.Changes.{Changes}
+use Rattle.tab_history.specs.World.{table_of}
+use Rattle.tab_history.specs.declared.entries.Entry.{Entry}
 use Rattle.tab_history.specs.declared.entries.Denied.TheVariants.{Memory}
 use Rattle.tab_history.specs.declared.exchanges.Ask.{Ask}
-use Rattle.tab_history.specs.declared.exchanges.Ask.TheVariants.{Get as Getting, Page as Listing, Change as Writing}
-use Rattle.tab_history.specs.declared.exchanges.Reply.{Reply}
+use Rattle.tab_history.specs.declared.exchanges.Ask.TheVariants.{Create as Creating, Drop as Dropping, Tables as Listing, Get as Getting, Page as Paging, Change as Writing}
 use Rattle.tab_history.specs.declared.exchanges.Reply.TheVariants.{Denied as Refusal}
+use Rattle.tab_json.specs.declared.entities.JsonForm.{JsonForm}
+use Rattle.tab_service.specs.declared.forms.Form.{Form}
+use Rattle.tab_service.specs.declared.forms.PartForm.{PartForm}
 use Rattle.tab_service.specs.declared.forms.Request.{Request}
 use Rattle.tab_service.specs.Decisions.{IsDecision}
-use Rattle.tab_service.specs.declared.decisions.Decided.{Decided}
+use Rattle.tab_service.specs.Refusals.{http_fault}
+use Rattle.tab_service.specs.declared.decisions.Decided.{Decided as Outcome}
 use Rattle.tab_service.specs.declared.decisions.Decided.TheVariants.{Go, No}
-use Rattle.tab_service.specs.declared.forms.Form.{Form}
-use Rattle.tab_service.specs.Replies.{SuitsAsk, Suits, reply_text, reply_to_ask, denied_reply, memory_fault}
-use Rattle.tab_drive.specs.Walk.{Walk, walk_after, done_outcome, reply_outcome}
-use Rattle.tab_drive.specs.Sessions.{goods, Keeps, IsServedAsk, found_or_not, IsDecided, entry_of, entries_for, rows_then, next_then, Stepped, Replied, RefusedAt}
+use Rattle.tab_service.specs.Forms.{HasParts, IsFormOf, IsInForm}
+use Rattle.tab_service.specs.Replies.{SuitsAsk, Suits, reply_text, denied_reply, memory_fault}
+use Rattle.tab_drive.specs.Messages.{AreRead, ComeTo}
+use Rattle.tab_drive.specs.Messages.ComeTo.{as_message, as_none}
+use Rattle.tab_drive.specs.Walk.{Walk, group_name, walk_after, done_outcome, reply_outcome}
+use Rattle.tab_drive.specs.Stores.{Held, held_by, held_then, denied, found_or_not, tick_at, OnTable, Gets, Pages, Lacks, Makes, IsRefusedGroup, LacksMoment, MayLack, table_for, IsDecided}
+use Rattle.tab_drive.specs.Sessions.{held_in, Keeps, look_up, entries_by, entries_for, Stepped, Replied, RefusedAt}
+use Rattle.tab_drive.specs.declared.look_ups.LookUp.{LookUp}
 use Rattle.tab_drive.specs.declared.schedule.Scheduled.TheVariants.{Now, Call}
 use Rattle.tab_drive.specs.declared.session.Session.{Session}
-use Rattle.tab_drive.proofs.WalkSteps.{adds, serving_after}
+use Rattle.tab_drive.specs.declared.stores.Decided.{Decided}
+use Rattle.tab_drive.specs.declared.stores.Store.{Store}
+use Rattle.tab_drive.proofs.GroupPlaces.{suits_refusal}
+use Rattle.tab_drive.proofs.WalkSteps.{adds, serving_after, holding_after}
 
-one_long : (group : List ItemView) (item : ItemView) → group ≡ item ∷ [] → length group ≡ 1
-one_long group item alone = rw alone refl
+-- ---- a decided request gets a reply of its kind
 
-suits_found : (name pk rk : List ℕ) (found : Option RowView) → SuitsAsk (Getting name pk rk) (found_or_not found)
-suits_found name pk rk (Some row) = tt
-suits_found name pk rk None = tt
+suits_as : (batch : Bool) (what : Ask) (decided same : Decided) → decided ≡ same → SuitsAsk batch what same.reply → SuitsAsk batch what decided.reply
+suits_as batch what decided same is suits = subst (λ (d : Decided). SuitsAsk batch what d.reply) (sym is) suits
 
-suits_denied : (what : Ask) → SuitsAsk what (Refusal Memory)
-suits_denied (Getting name pk rk) = tt
-suits_denied (Listing name options) = tt
-suits_denied (Writing group) = tt
+-- a batch asks for a change
+create_is_single : (batch : Bool) (name : List ℕ) (json : JsonForm) (parts : List PartForm) → HasParts batch (Creating name) json parts → batch ≡ false
+create_is_single true name json parts has = absurd has
+create_is_single false name json parts has = refl
 
--- a decided request gets a reply of its kind
-suits_ask : (tick : ℕ) (rows : List RowView) (what : Ask) (reply : Reply) (changes : Option Changes) → IsServedAsk what
-    → IsDecided rows tick what reply changes → SuitsAsk what reply
-suits_ask tick rows (Getting name pk rk) reply changes served (inl gets) =
-    subst (λ (r : Reply). SuitsAsk (Getting name pk rk) r) (sym gets.0) (suits_found name pk rk (row_at rows (record { table = goods; pk = pk; rk = rk })))
-suits_ask tick rows (Getting name pk rk) reply changes served (inr lacks) =
-    subst (λ (r : Reply). SuitsAsk (Getting name pk rk) r) (sym lacks.0) (suits_denied (Getting name pk rk))
-suits_ask tick rows (Listing name options) reply changes served (inl lists) =
-    subst (λ (r : Reply). SuitsAsk (Listing name options) r) (sym lists.0) tt
-suits_ask tick rows (Listing name options) reply changes served (inr lacks) =
-    subst (λ (r : Reply). SuitsAsk (Listing name options) r) (sym lacks.0) (suits_denied (Listing name options))
-suits_ask tick rows (Writing group) reply changes served (inl makes) =
-    subst (λ (r : Reply). SuitsAsk (Writing group) r) (sym makes.reply_is) (one_long group served.0 served.1, makes.in_time)
-suits_ask tick rows (Writing group) reply changes served (inr (inl refuses)) =
-    subst (λ (r : Reply). SuitsAsk (Writing group) r) (sym refuses.reply_is) (one_long group served.0 served.1, refuses.timely)
-suits_ask tick rows (Writing group) reply changes served (inr (inr (inl spends))) =
-    subst (λ (r : Reply). SuitsAsk (Writing group) r) (sym spends.reply_is) tt
-suits_ask tick rows (Writing group) reply changes served (inr (inr (inr lacks))) =
-    subst (λ (r : Reply). SuitsAsk (Writing group) r) (sym lacks.0) (suits_denied (Writing group))
+get_is_single : (batch : Bool) (name pk rk : List ℕ) (json : JsonForm) (parts : List PartForm) → HasParts batch (Getting name pk rk) json parts → batch ≡ false
+get_is_single true name pk rk json parts has = absurd has
+get_is_single false name pk rk json parts has = refl
 
-pub suits_decided : (tick : ℕ) (rows : List RowView) (request : Request) (reply : Reply) (changes : Option Changes) → IsServedAsk request.ask
-    → IsDecided rows tick request.ask reply changes → Suits request reply
-unfolding Suits
-suits_decided tick rows request reply changes served decided = suits_ask tick rows request.ask reply changes served decided
+suits_found : (batch : Bool) (name pk rk : List ℕ) (found : Option RowView) → batch ≡ false → SuitsAsk batch (Getting name pk rk) (found_or_not found)
+suits_found batch name pk rk (Some row) single = tt
+suits_found batch name pk rk None single = single
 
-no_changes : (tick : ℕ) (changes : Option Changes) → changes ≡ None → IfSome changes (λ made. made.tick ≤ GREATEST)
-no_changes tick changes none = subst (λ (c : Option Changes). IfSome c (λ made. made.tick ≤ GREATEST)) (sym none) tt
+suits_get : (batch : Bool) (held : Held) (name pk rk : List ℕ) (decided : Decided) (table : Option ℕ) → batch ≡ false
+    → OnTable table (λ number. Gets held (record { table = number; pk = pk; rk = rk }) decided ⊎ Lacks decided) decided → SuitsAsk batch (Getting name pk rk) decided.reply
+suits_get batch held name pk rk decided None single none_is = suits_as batch (Getting name pk rk) decided _ none_is tt
+suits_get batch held name pk rk decided (Some table) single (inl gets) =
+    suits_as batch (Getting name pk rk) decided _ gets (suits_found batch name pk rk (row_at held.rows (record { table = table; pk = pk; rk = rk })) single)
+suits_get batch held name pk rk decided (Some table) single (inr lacks) = suits_as batch (Getting name pk rk) decided _ lacks tt
 
--- the changes of a decided request are made at a moment
-pub in_time : (tick : ℕ) (rows : List RowView) (what : Ask) (reply : Reply) (changes : Option Changes)
-    → IsDecided rows tick what reply changes → IfSome changes (λ made. made.tick ≤ GREATEST)
-in_time tick rows (Getting name pk rk) reply changes (inl gets) = no_changes tick changes gets.1
-in_time tick rows (Getting name pk rk) reply changes (inr lacks) = no_changes tick changes lacks.1
-in_time tick rows (Listing name options) reply changes (inl lists) = no_changes tick changes lists.1
-in_time tick rows (Listing name options) reply changes (inr lacks) = no_changes tick changes lacks.1
-in_time tick rows (Writing group) reply changes (inl makes) =
-    subst (λ (c : Option Changes). IfSome c (λ made. made.tick ≤ GREATEST)) (sym makes.changes_are) (omega (arith, makes.in_time, makes.tick_is))
-in_time tick rows (Writing group) reply changes (inr (inl refuses)) = no_changes tick changes refuses.none
-in_time tick rows (Writing group) reply changes (inr (inr (inl spends))) = no_changes tick changes spends.none
-in_time tick rows (Writing group) reply changes (inr (inr (inr lacks))) = no_changes tick changes lacks.1
+suits_page : (batch : Bool) (held : Held) (name : List ℕ) (options : Options) (decided : Decided) (table : Option ℕ)
+    → OnTable table (λ number. Pages held number options decided ⊎ Lacks decided) decided → SuitsAsk batch (Paging name options) decided.reply
+suits_page batch held name options decided None none_is = suits_as batch (Paging name options) decided _ none_is tt
+suits_page batch held name options decided (Some table) (inl pages) = suits_as batch (Paging name options) decided _ pages tt
+suits_page batch held name options decided (Some table) (inr lacks) = suits_as batch (Paging name options) decided _ lacks tt
 
--- want of memory comes to its reply
-pub lacks_decided : (tick : ℕ) (rows : List RowView) (what : Ask) (reply : Reply) (changes : Option Changes)
-    → reply ≡ Refusal Memory → changes ≡ None → IsDecided rows tick what reply changes
-lacks_decided tick rows (Getting name pk rk) reply changes r c = inr (r, c)
-lacks_decided tick rows (Listing name options) reply changes r c = inr (r, c)
-lacks_decided tick rows (Writing group) reply changes r c = inr (inr (inr (r, c)))
+suits_change : (batch : Bool) (held : Held) (moment : ℕ) (group : List ItemView) (decided : Decided) (table : Option ℕ)
+    → OnTable table
+    (λ number. Makes held moment number group decided ⊎ (IsRefusedGroup held moment number group decided ⊎ (LacksMoment held moment decided ⊎ Lacks decided))) decided
+    → SuitsAsk batch (Writing group) decided.reply
+suits_change batch held moment group decided None none_is = suits_as batch (Writing group) decided _ none_is tt
+suits_change batch held moment group decided (Some table) (inl makes) = suits_as batch (Writing group) decided _ makes.is (tt, makes.in_time)
+suits_change batch held moment group decided (Some table) (inr (inl refuses)) =
+    suits_as batch (Writing group) decided _ refuses.is (suits_refusal held.rows table (tick_at held moment) group refuses.refusal refuses.outcome refuses.timely)
+suits_change batch held moment group decided (Some table) (inr (inr (inl spends))) = suits_as batch (Writing group) decided _ spends.is tt
+suits_change batch held moment group decided (Some table) (inr (inr (inr lacks))) = suits_as batch (Writing group) decided _ lacks tt
 
-denied_for : (form : Form) (what : Ask) → reply_to_ask form what (Refusal Memory) ≡ memory_fault
-unfolding denied_reply
-denied_for form (Getting name pk rk) = refl
-denied_for form (Listing name options) = refl
-denied_for form (Writing group) = refl
+suits_ask : (form : Form) (held : Held) (moment : ℕ) (what : Ask) (decided : Decided) → IsFormOf what form → IsDecided held moment what decided → SuitsAsk form.batch what decided.reply
+suits_ask form held moment (Creating name) decided form_is (inl creates) = suits_as form.batch (Creating name) decided _ creates.is tt
+suits_ask form held moment (Creating name) decided form_is (inr (inl finds)) =
+    suits_as form.batch (Creating name) decided _ finds.is (create_is_single form.batch name form.json form.parts form_is)
+suits_ask form held moment (Creating name) decided form_is (inr (inr (inl lacks))) = suits_as form.batch (Creating name) decided _ lacks.is tt
+suits_ask form held moment (Creating name) decided form_is (inr (inr (inr lacks))) = suits_as form.batch (Creating name) decided _ lacks tt
+suits_ask form held moment (Dropping name) decided form_is (inl drops) = suits_as form.batch (Dropping name) decided _ drops.is tt
+suits_ask form held moment (Dropping name) decided form_is (inr (inl finds)) = suits_as form.batch (Dropping name) decided _ finds.is tt
+suits_ask form held moment (Dropping name) decided form_is (inr (inr lacks)) = suits_as form.batch (Dropping name) decided _ lacks tt
+suits_ask form held moment (Listing after top) decided form_is (inl names) = suits_as form.batch (Listing after top) decided _ names tt
+suits_ask form held moment (Listing after top) decided form_is (inr lacks) = suits_as form.batch (Listing after top) decided _ lacks tt
+suits_ask form held moment (Getting name pk rk) decided form_is comes =
+    suits_get form.batch held name pk rk decided (table_of held.names name) (get_is_single form.batch name pk rk form.json form.parts form_is) comes
+suits_ask form held moment (Paging name options) decided form_is comes = suits_page form.batch held name options decided (table_of held.names name) comes
+suits_ask form held moment (Writing group) decided form_is comes = suits_change form.batch held moment group decided (table_of held.names (group_name group)) comes
+
+pub suits_decided : (held : Held) (moment : ℕ) (request : Request) (decided : Decided) → IsInForm request.form.account request → IsDecided held moment request.ask decided → Suits request decided.reply
+suits_decided held moment request decided in_form comes =
+    record { form = in_form.suits; suits = suits_ask request.form held moment request.ask decided in_form.suits comes }
+
+-- ---- want of memory comes to its reply, where it may come
+
+lacks_get : (held : Held) (name pk rk : List ℕ) (table : Option ℕ) → MayLack (Getting name pk rk) table
+    → OnTable table (λ number. Gets held (record { table = number; pk = pk; rk = rk }) (denied Memory) ⊎ Lacks (denied Memory)) (denied Memory)
+lacks_get held name pk rk None may = absurd may
+lacks_get held name pk rk (Some table) may = inr refl
+
+lacks_page : (held : Held) (name : List ℕ) (options : Options) (table : Option ℕ) → MayLack (Paging name options) table
+    → OnTable table (λ number. Pages held number options (denied Memory) ⊎ Lacks (denied Memory)) (denied Memory)
+lacks_page held name options None may = absurd may
+lacks_page held name options (Some table) may = inr refl
+
+lacks_change : (held : Held) (moment : ℕ) (group : List ItemView) (table : Option ℕ) → MayLack (Writing group) table
+    → OnTable table
+    (λ number. Makes held moment number group (denied Memory)
+    ⊎ (IsRefusedGroup held moment number group (denied Memory) ⊎ (LacksMoment held moment (denied Memory) ⊎ Lacks (denied Memory)))) (denied Memory)
+lacks_change held moment group None may = absurd may
+lacks_change held moment group (Some table) may = inr (inr (inr refl))
+
+pub lacks_decided : (held : Held) (moment : ℕ) (what : Ask) → MayLack what (table_for held.names what) → IsDecided held moment what (denied Memory)
+lacks_decided held moment (Creating name) may = inr (inr (inr refl))
+lacks_decided held moment (Dropping name) may = inr (inr refl)
+lacks_decided held moment (Listing after top) may = inr refl
+lacks_decided held moment (Getting name pk rk) may = lacks_get held name pk rk (table_of held.names name) may
+lacks_decided held moment (Paging name options) may = lacks_page held name options (table_of held.names name) may
+lacks_decided held moment (Writing group) may = lacks_change held moment group (table_of held.names (group_name group)) may
 
 -- the reply that no memory was found is the same for all requests
 pub denied_text : (request : Request) → reply_text request (Refusal Memory) ≡ memory_fault
-unfolding reply_text
-denied_text request = denied_for request.form request.ask
+unfolding reply_text denied_reply
+denied_text request = refl
+
+-- a request that is in form for an account is so for its own
+pub own_form : (account : List ℕ) (request : Request) → IsInForm account request → IsInForm request.form.account request
+own_form account request in_form = subst (λ (a : List ℕ). IsInForm a request) (sym in_form.of_account) in_form
+
+-- ---- messages
+
+-- a message that was read comes to its decision where the walk stands
+pub comes_to : (keys : Keys) (moment now : ℕ) (bytes : List ℕ) (message : Message) (found decided : Outcome) → moment ≡ now → AreRead bytes (Ok message)
+    → IsDecision keys moment message found → found ≡ decided → ComeTo keys now bytes decided
+comes_to keys moment now bytes message found decided same read is given =
+    as_message message read
+    (subst (λ (m : ℕ). IsDecision keys m message decided) same (subst (λ (d : Outcome). IsDecision keys moment message d) given is))
+
+no_fault : (refused : HttpRefused) (reply : List ℕ) → refused ≡ NoRoom → http_fault refused ≡ Some reply → ⊥
+unfolding http_fault
+no_fault refused reply is fault = let none : http_fault NoRoom ≡ Some reply = subst (λ (r : HttpRefused). http_fault r ≡ Some reply) is fault in cc
+
+-- and one that was refused to its reply
+pub refused_comes : (keys : Keys) (now : ℕ) (bytes : List ℕ) (refused : HttpRefused) (reply : List ℕ) → (refused ≡ NoRoom) ⊎ AreRead bytes (Err refused) → http_fault refused ≡ Some reply
+    → ComeTo keys now bytes (No reply)
+refused_comes keys now bytes refused reply (inl is) fault = absurd (no_fault refused reply is fault)
+refused_comes keys now bytes refused reply (inr read) fault = as_none refused reply read fault refl
+
+-- ---- steps
 
 -- an answered message is a step of the walk
-pub replied_steps : (account message : List ℕ) (walk : Walk) (old new : Session) (request : Request) (text : List ℕ)
-    → Keeps old walk → IsDecision account message (Some (Go request)) → IsServedAsk request.ask
-    → Replied old new request text → Stepped account walk (Call message) text old new
+pub replied_steps : (keys : Keys) (message : List ℕ) (walk : Walk) (old new : Session) (request : Request) (text : List ℕ)
+    → Keeps old walk → ComeTo keys walk.moment message (Go request) → Replied old new request text → Stepped keys walk (Call message) text old new
 unfolding walk_after
-replied_steps account message walk old new request text keeps reads ask replied =
-    let decided : IsDecided walk.past.world.rows (max walk.moment walk.next_tick) request.ask replied.reply replied.changes =
-    rw (← keeps.rows, ← keeps.moment, ← keeps.next_tick) replied.decided in
-    let added = adds walk request.ask replied.reply replied.changes keeps.serving ask decided in
-    let left = serving_after walk (Call message) request.ask replied.reply replied.changes keeps.serving ask decided in
+replied_steps keys message walk old new request text keeps comes replied =
+    let over : IsDecided (held_in walk) old.moment request.ask replied.decided = subst (λ (h : Held). IsDecided h old.moment request.ask replied.decided) keeps.held replied.comes in
+    let decided : IsDecided (held_in walk) walk.moment request.ask replied.decided = subst (λ (m : ℕ). IsDecided (held_in walk) m request.ask replied.decided) keeps.moment over in
+    let added = adds walk request.ask replied.decided keeps.serving decided in
+    let entries = entries_for walk.number walk.moment (held_in walk) request.ask replied.decided.reply in
     record {
-      entries = entries_for walk.number walk.moment request.ask replied.reply;
+      entries = entries;
       happens = inl (record {
         request = request;
-        reads = reads;
-        answer = entry_of walk.number walk.moment request.ask replied.reply;
+        comes = comes;
+        answer = added.answer;
         answers = added.answers;
-        takes = inl (Some goods, refl);
-        reply = replied.reply;
+        takes = added.takes;
+        reply = replied.decided.reply;
         replies = added.replies;
         written = replied.written;
       });
@@ -121,84 +181,63 @@ replied_steps account message walk old new request text keeps reads ask replied 
       keeps = record {
         moment = replied.moment ∙ keeps.moment;
         number = replied.number ∙ ap (λ (n : ℕ). n + 1) keeps.number;
-        next_tick = replied.next ∙ ap (λ (n : ℕ). next_then n replied.changes) keeps.next_tick ∙ sym added.next;
-        rows = replied.rows ∙ ap (λ (rows : List RowView). rows_then rows replied.changes) keeps.rows ∙ sym added.rows;
-        serving = left;
+        held = replied.held ∙ ap (λ (h : Held). held_then h replied.decided.effect) keeps.held ∙ sym (holding_after walk (Call message) request.ask replied.decided entries added);
+        serving = serving_after walk (Call message) request.ask replied.decided entries added;
       };
-      history = replied.history ∙ ap (λ (n : ℕ). old.history.items ++ entries_for n old.moment request.ask replied.reply) keeps.number
-          ∙ ap (λ (m : ℕ). old.history.items ++ entries_for walk.number m request.ask replied.reply) keeps.moment;
+      history = replied.history ∙ ap (λ (n : ℕ). old.history.items ++ entries_for n old.moment (held_by old.store) request.ask replied.decided.reply) keeps.number
+          ∙ ap (λ (m : ℕ). old.history.items ++ entries_for walk.number m (held_by old.store) request.ask replied.decided.reply) keeps.moment
+          ∙ ap (λ (h : Held). old.history.items ++ entries_for walk.number walk.moment h request.ask replied.decided.reply) keeps.held;
     }
 
 -- an event that sets the moment is a step of the walk
-pub moved_steps : (account : List ℕ) (walk : Walk) (old new : Session) (moment : ℕ) → Keeps old walk
-    → new.moment ≡ moment → new.number ≡ old.number + 1 → new.next_tick ≡ old.next_tick → new.rows.rows ≡ old.rows.rows → new.history.items ≡ old.history.items
-    → Stepped account walk (Now moment) done_outcome old new
+pub moved_steps : (keys : Keys) (walk : Walk) (old new : Session) (moment : ℕ) → Keeps old walk
+    → new.moment ≡ moment → new.number ≡ old.number + 1 → held_by new.store ≡ held_by old.store → new.history.items ≡ old.history.items
+    → Stepped keys walk (Now moment) done_outcome old new
 unfolding walk_after
-moved_steps account walk old new moment keeps at number next rows history = record {
+moved_steps keys walk old new moment keeps at number held history = record {
   entries = [];
   happens = (refl, refl);
   legal = tt;
   keeps = record {
     moment = at;
     number = number ∙ ap (λ (n : ℕ). n + 1) keeps.number;
-    next_tick = next ∙ keeps.next_tick;
-    rows = rows ∙ keeps.rows;
-    serving = record {
-      floors = keeps.serving.floors;
-      names = keeps.serving.names;
-      bounds = keeps.serving.bounds;
-    };
+    held = held ∙ keeps.held;
+    serving = record { floors = keeps.serving.floors; bounds = keeps.serving.bounds };
   };
   history = history ∙ sym (append-nil old.history.items);
 }
 
--- the same bytes come to the same
-pub same_message : (account bytes message : List ℕ) (found : Option Decided) → bytes ≡ message → IsDecision account bytes found → IsDecision account message found
-same_message account bytes message found same reads = subst (λ (m : List ℕ). IsDecision account m found) same reads
-
 -- a refused message is a step of the walk
-pub refused_steps : (account message reply text : List ℕ) (walk : Walk) (old new : Session) → Keeps old walk → IsDecision account message (Some (No reply))
-    → text ≡ reply_outcome reply → RefusedAt old new → Stepped account walk (Call message) text old new
+pub refused_steps : (keys : Keys) (message reply text : List ℕ) (walk : Walk) (old new : Session) → Keeps old walk → ComeTo keys walk.moment message (No reply)
+    → text ≡ reply_outcome reply → RefusedAt old new → Stepped keys walk (Call message) text old new
 unfolding walk_after
-refused_steps account message reply text walk old new keeps reads written refused = record {
+refused_steps keys message reply text walk old new keeps comes written refused = record {
   entries = [];
-  happens = inr (record { reply = reply; reads = reads; none = refl; written = written });
+  happens = inr (record { reply = reply; comes = comes; none = refl; written = written });
   legal = tt;
   keeps = record {
     moment = refused.moment ∙ keeps.moment;
     number = refused.number ∙ ap (λ (n : ℕ). n + 1) keeps.number;
-    next_tick = refused.next ∙ keeps.next_tick;
-    rows = refused.rows ∙ keeps.rows;
-    serving = record {
-      floors = keeps.serving.floors;
-      names = keeps.serving.names;
-      bounds = keeps.serving.bounds;
-    };
+    held = refused.held ∙ keeps.held;
+    serving = record { floors = keeps.serving.floors; bounds = keeps.serving.bounds };
   };
   history = refused.history ∙ sym (append-nil old.history.items);
 }
 
--- a value of which two things are known
-pub ok_both : {T E : Type 0} (P S : T → Type 0) (Q : Type 0) (r : Result T E) → IfOk r P → OnOk r Q → ((x : T) → P x → Q → S x) → IfOk r S
-ok_both P S Q (Ok x) p q both = both x p q
-ok_both P S Q (Err e) p q both = tt
-
--- a request that is recorded where the session stood before it was decided
-pub replied_from : (old mid new : Session) (request : Request) (text : List ℕ) (reply : Reply) (changes : Option Changes)
-    → mid.moment ≡ old.moment → mid.number ≡ old.number → mid.next_tick ≡ old.next_tick → mid.rows.rows ≡ old.rows.rows → mid.history.items ≡ old.history.items
-    → IsDecided old.rows.rows (max old.moment old.next_tick) request.ask reply changes → text ≡ reply_outcome (reply_text request reply)
-    → new.history.items ≡ mid.history.items ++ entries_for mid.number mid.moment request.ask reply → new.rows.rows ≡ rows_then mid.rows.rows changes
-    → new.next_tick ≡ next_then mid.next_tick changes → new.number ≡ mid.number + 1 → new.moment ≡ mid.moment → Replied old new request text
-replied_from old mid new request text reply changes moment number next rows items decided written history rows_are next_is number_is moment_is = record {
-  reply = reply;
-  changes = changes;
+-- a request that is recorded over a store that holds what it held
+pub replied_from : (old new : Session) (store : Store) (items : List Entry) (look : Option LookUp) (request : Request) (text : List ℕ) (decided : Decided)
+    → items ≡ old.history.items → held_by store ≡ held_by old.store → look ≡ look_up old.store.tables.names request.ask
+    → IsDecided (held_by old.store) old.moment request.ask decided → text ≡ reply_outcome (reply_text request decided.reply)
+    → new.history.items ≡ items ++ entries_by look old.number old.moment store.next_table request.ask decided.reply
+    → held_by new.store ≡ held_then (held_by store) decided.effect → new.number ≡ old.number + 1 → new.moment ≡ old.moment → Replied old new request text
+replied_from old new store items look request text decided same held looked comes written history held_is number moment = record {
   decided = decided;
+  comes = comes;
   written = written;
-  history = history ∙ ap (λ (h : List Entry). h ++ entries_for mid.number mid.moment request.ask reply) items
-      ∙ ap (λ (n : ℕ). old.history.items ++ entries_for n mid.moment request.ask reply) number
-      ∙ ap (λ (m : ℕ). old.history.items ++ entries_for old.number m request.ask reply) moment;
-  rows = rows_are ∙ ap (λ (r : List RowView). rows_then r changes) rows;
-  next = next_is ∙ ap (λ (n : ℕ). next_then n changes) next;
-  number = number_is ∙ ap (λ (n : ℕ). n + 1) number;
-  moment = moment_is ∙ moment;
+  history = history ∙ ap (λ (h : List Entry). h ++ entries_by look old.number old.moment store.next_table request.ask decided.reply) same
+      ∙ ap (λ (n : ℕ). old.history.items ++ entries_by look old.number old.moment n request.ask decided.reply) (ap (λ (h : Held). h.next_table) held)
+      ∙ ap (λ (l : Option LookUp). old.history.items ++ entries_by l old.number old.moment old.store.next_table request.ask decided.reply) looked;
+  held = held_is ∙ ap (λ (h : Held). held_then h decided.effect) held;
+  number = number;
+  moment = moment;
 }

@@ -1,6 +1,9 @@
 -- The words of a run, and how a run ends.
-use Rattle.std.specs.Prelude.{◌≡◌, ℕ, ◌+◌, ◌⊎◌, List, [], ◌∷◌, length, Bool, true, false, ◌&&◌, ◌||◌, nat_lt, nat_le, if◌then◌else◌, codes, Option}
+use Rattle.std.specs.Prelude.{◌≡◌, ℕ, ◌+◌, ◌⊎◌, List, [], ◌∷◌, length, Bool, true, false, ◌&&◌, ◌||◌, nat_lt, nat_le, if◌then◌else◌, codes, bytes_eq, Option, Some, None, option_map}
 use Rattle.std.specs.List.{list_all}
+use Rattle.base64.specs.Engines.{standard}
+use Rattle.base64.specs.GeneralPurpose.{decoded_of}
+use Rattle.tab_auth.specs.declared.signatures.Keys.{Keys}
 use Rattle.tab_history.specs.declared.entries.Entry.{Entry}
 use Rattle.tab_drive.specs.Runs.{Traffic, Stops, TookLine, refused_line, read_fault_line, memory_line}
 use Rattle.tab_drive.specs.declared.serving.Stop.{Stop}
@@ -14,14 +17,26 @@ is_account_byte b = (nat_le 97 b && nat_le b 122) || (nat_le 48 b && nat_le b 57
 unfoldable pub is_account : List ℕ → Bool
 is_account name = if nat_lt (length name) 3 then false else (if nat_lt 24 (length name) then false else list_all is_account_byte name)
 
--- the words `drive ACCOUNT -`, of an open account
-pub record IsDrive (words : List (List ℕ)) (account : List ℕ) : Type 0 where
-  pub spelled : words ≡ codes "drive" ∷ account ∷ codes "-" ∷ []
-  pub named : is_account account ≡ true
+-- a word says which key an account has: `-` that it is open, and otherwise the key in standard Base64 (RFC 4648, section 4)
+abbrev pub key_of : List ℕ → Option (Option (List ℕ))
+key_of word = if bytes_eq word (codes "-") then Some None else option_map (λ key. Some key) (decoded_of standard word)
+
+-- the account of that name, with the key that the word says
+pub record IsNamed (name word : List ℕ) (keys : Keys) : Type 0 where
+  pub account_is : keys.account ≡ name
+  pub key_is : key_of word ≡ Some keys.key
+
+-- the words `drive ACCOUNT KEY`
+pub record IsDrive (words : List (List ℕ)) (keys : Keys) : Type 0 where
+  pub name : List ℕ
+  pub word : List ℕ
+  pub spelled : words ≡ codes "drive" ∷ name ∷ word ∷ []
+  pub allowed : is_account name ≡ true
+  pub named : IsNamed name word keys
 
 -- the words are none of the commands'
 abbrev pub IsNoCommand : List (List ℕ) → Type 0
-IsNoCommand words = (account : List ℕ) → IsDrive words account → ⊥
+IsNoCommand words = (keys : Keys) → IsDrive words keys → ⊥
 
 -- the exit status of a schedule that stopped so
 abbrev pub status_of : Stop → ℕ
@@ -44,11 +59,11 @@ line_of WriteFault done = []
 line_of Memory done = memory_line
 
 -- a schedule was served up to its stop, and its last line was written
-pub record Drove (account : List ℕ) (moment : ℕ) (traffic : Traffic) (faults_before faults : ℕ) (status : ℕ) (history : List Entry) (done : ℕ) : Type 0 where
+pub record Drove (keys : Keys) (moment : ℕ) (traffic : Traffic) (faults_before faults : ℕ) (status : ℕ) (history : List Entry) (done : ℕ) : Type 0 where
   pub stop : Stop
   pub status_is : status ≡ status_of stop
   pub middle : Option (List ℕ)
-  pub stops : Stops account moment (record traffic { taken = middle }) history done stop
+  pub stops : Stops keys moment (record traffic { taken = middle }) history done stop
   pub line : TookLine middle traffic.taken faults_before faults (line_of stop done)
 
 -- nothing was read, and one line was written
@@ -59,7 +74,7 @@ pub record SaidOnly (traffic : Traffic) (faults_before faults : ℕ) (said : Lis
   pub counted : done ≡ 0
 
 -- how the command `drive` ends: by its schedule's stop, or at once, where no memory was found to open a store
-abbrev pub Drives : List ℕ → ℕ → Traffic → ℕ → ℕ → ℕ → List Entry → ℕ → Type 0
-Drives account moment traffic faults_before faults status history done =
-    Drove account moment traffic faults_before faults status history done
+abbrev pub Drives : Keys → ℕ → Traffic → ℕ → ℕ → ℕ → List Entry → ℕ → Type 0
+Drives keys moment traffic faults_before faults status history done =
+    Drove keys moment traffic faults_before faults status history done
     ⊎ ((status ≡ 7) × SaidOnly traffic faults_before faults memory_line history done)

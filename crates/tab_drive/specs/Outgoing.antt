@@ -2,16 +2,15 @@
 use Rattle.std.specs.Prelude.{ℕ, List, Option, Result, MatchResult}
 use Rattle.std.specs.Io.KnownBytes.{Appends}
 use Rattle.tab_outside.specs.Transfers.{TookFront}
-use Rattle.tab_service.specs.Replies.{memory_fault}
 use Rattle.tab_drive.specs.Walk.{done_outcome, reply_outcome}
 use Rattle.tab_drive.specs.declared.outgoing.Outgoing.{Outgoing}
-use Rattle.tab_drive.specs.declared.outgoing.Outgoing.TheVariants.{Done, Reply, OutOfMemory}
+use Rattle.tab_drive.specs.declared.outgoing.Outgoing.TheVariants.{Done, Reply, Fixed}
 
 -- the text of what an event gives
 abbrev pub outgoing_text : Outgoing → List ℕ
 outgoing_text Done = done_outcome
 outgoing_text (Reply bytes) = reply_outcome bytes
-outgoing_text OutOfMemory = reply_outcome memory_fault
+outgoing_text (Fixed bytes) = reply_outcome bytes.now
 
 -- the sink took the whole text at Ok, and otherwise a front of it that is shorter
 abbrev pub Wrote : {T E : Type 0} → Option (List ℕ) → Option (List ℕ) → Result T E → List ℕ → Type 0

@@ -3,6 +3,7 @@ use Rattle.std.specs.Prelude.{◌≡◌, ℕ, ◌<◌, ◌≤◌, ◌⊎◌, Lis
 use Rattle.std.specs.Io.KnownBytes.{Consumes, Appends}
 use Rattle.tab_outside.specs.Faults.{Rose}
 use Rattle.tab_outside.specs.Transfers.{TookFront}
+use Rattle.tab_auth.specs.declared.signatures.Keys.{Keys}
 use Rattle.tab_history.specs.Legality.{Legal}
 use Rattle.tab_history.specs.declared.entries.Entry.{Entry}
 use Rattle.tab_drive.specs.Schedule.{spelling, Fits, end_line, IsNoEvent}
@@ -24,25 +25,25 @@ pub record Traffic : Type 0 where
 -- ---- one event
 
 -- the exchange happened where the walk stands
-pub record Exchanged (account : List ℕ) (walk : Walk) (exchange : Exchange) (old new : Session) : Type 0 where
+pub record Exchanged (keys : Keys) (walk : Walk) (exchange : Exchange) (old new : Session) : Type 0 where
   pub fits : Fits exchange.event
   pub numbered : walk.number < last_number
-  pub happens : Happens account walk exchange.event exchange.entries exchange.text
+  pub happens : Happens keys walk exchange.event exchange.entries exchange.text
   pub legal : Legal walk.past exchange.entries
   pub keeps : Keeps new (walk_after walk exchange.event exchange.entries)
   pub history : new.history.items ≡ old.history.items ++ exchange.entries
 
 -- an event was read, taken and answered, and its text was written whole
-pub record Turned (account : List ℕ) (walk : Walk) (traffic : Traffic) (old new : Session) : Type 0 where
+pub record Turned (keys : Keys) (walk : Walk) (traffic : Traffic) (old new : Session) : Type 0 where
   pub exchange : Exchange
-  pub exchanged : Exchanged account walk exchange old new
+  pub exchanged : Exchanged keys walk exchange old new
   pub read : Consumes traffic.left_before traffic.left (spelling exchange.event)
   pub written : Appends traffic.taken_before traffic.taken exchange.text
 
 -- its text was not written whole
-pub record TurnedShort (account : List ℕ) (walk : Walk) (traffic : Traffic) (old new : Session) : Type 0 where
+pub record TurnedShort (keys : Keys) (walk : Walk) (traffic : Traffic) (old new : Session) : Type 0 where
   pub exchange : Exchange
-  pub exchanged : Exchanged account walk exchange old new
+  pub exchanged : Exchanged keys walk exchange old new
   pub read : Consumes traffic.left_before traffic.left (spelling exchange.event)
   pub written : TookFront traffic.taken_before traffic.taken exchange.text
 
@@ -63,35 +64,35 @@ abbrev pub IsOneAtMost : List ℕ → Type 0
 IsOneAtMost bytes = ((event : Scheduled) × Fits event × (bytes ≡ spelling event)) ⊎ IsCutShort bytes
 
 -- how a turn stopped the run
-abbrev pub StopsTurn : List ℕ → Walk → Traffic → Session → Session → Stop → Type 0
-StopsTurn account walk traffic old new End = TurnedIdle (λ part. part ≡ end_line) traffic old new
-StopsTurn account walk traffic old new Refused = IfTold traffic.left_before (IsRefused account walk) × TurnedIdle IsOneAtMost traffic old new
-StopsTurn account walk traffic old new ReadFault = TurnedIdle IsCutShort traffic old new
-StopsTurn account walk traffic old new WriteFault = TurnedShort account walk traffic old new
-StopsTurn account walk traffic old new Memory = TurnedIdle IsOneAtMost traffic old new
+abbrev pub StopsTurn : Keys → Walk → Traffic → Session → Session → Stop → Type 0
+StopsTurn keys walk traffic old new End = TurnedIdle (λ part. part ≡ end_line) traffic old new
+StopsTurn keys walk traffic old new Refused = IfTold traffic.left_before (IsRefused walk) × TurnedIdle IsOneAtMost traffic old new
+StopsTurn keys walk traffic old new ReadFault = TurnedIdle IsCutShort traffic old new
+StopsTurn keys walk traffic old new WriteFault = TurnedShort keys walk traffic old new
+StopsTurn keys walk traffic old new Memory = TurnedIdle IsOneAtMost traffic old new
 
 -- ---- a whole schedule
 
 -- the exchanges follow one another from the walk's beginning, and the history is the opening's entry and theirs
-pub record Ran (account : List ℕ) (moment : ℕ) (history : List Entry) (exchanges : List Exchange) : Type 0 where
-  pub follows : Follows account (first_walk moment) exchanges
+pub record Ran (keys : Keys) (moment : ℕ) (history : List Entry) (exchanges : List Exchange) : Type 0 where
+  pub follows : Follows keys (first_walk moment) exchanges
   pub acted : history ≡ opening ∷ entries_of exchanges
 
 -- the schedule was read up to its last line, and all of its texts were written
-pub record Finished (account : List ℕ) (moment : ℕ) (traffic : Traffic) (history : List Entry) (done : ℕ) : Type 0 where
+pub record Finished (keys : Keys) (moment : ℕ) (traffic : Traffic) (history : List Entry) (done : ℕ) : Type 0 where
   pub exchanges : List Exchange
-  pub ran : Ran account moment history exchanges
+  pub ran : Ran keys moment history exchanges
   pub read : Consumes traffic.left_before traffic.left (bytes_of exchanges ++ end_line)
   pub written : Appends traffic.taken_before traffic.taken (text_of exchanges)
   pub counted : done ≡ length exchanges
 
 -- the event behind these exchanges is refused, and nothing was taken from the source behind it
-pub record RefusedNext (account : List ℕ) (moment : ℕ) (traffic : Traffic) (history : List Entry) (done : ℕ) : Type 0 where
+pub record RefusedNext (keys : Keys) (moment : ℕ) (traffic : Traffic) (history : List Entry) (done : ℕ) : Type 0 where
   pub exchanges : List Exchange
-  pub ran : Ran account moment history exchanges
+  pub ran : Ran keys moment history exchanges
   pub behind : Option (List ℕ)
   pub read : Consumes traffic.left_before behind (bytes_of exchanges)
-  pub refused : IfTold behind (IsRefused account (walk_after_all (first_walk moment) exchanges))
+  pub refused : IfTold behind (IsRefused (walk_after_all (first_walk moment) exchanges))
   pub part : List ℕ
   pub within : IsOneAtMost part
   pub further : Consumes behind traffic.left part
@@ -99,9 +100,9 @@ pub record RefusedNext (account : List ℕ) (moment : ℕ) (traffic : Traffic) (
   pub counted : done ≡ length exchanges
 
 -- behind these exchanges bytes were taken from the source that made no further exchange
-pub record LeftOff (P : List ℕ → Type 0) (account : List ℕ) (moment : ℕ) (traffic : Traffic) (history : List Entry) (done : ℕ) : Type 0 where
+pub record LeftOff (P : List ℕ → Type 0) (keys : Keys) (moment : ℕ) (traffic : Traffic) (history : List Entry) (done : ℕ) : Type 0 where
   pub exchanges : List Exchange
-  pub ran : Ran account moment history exchanges
+  pub ran : Ran keys moment history exchanges
   pub part : List ℕ
   pub are : P part
   pub read : Consumes traffic.left_before traffic.left (bytes_of exchanges ++ part)
@@ -109,10 +110,10 @@ pub record LeftOff (P : List ℕ → Type 0) (account : List ℕ) (moment : ℕ)
   pub counted : done ≡ length exchanges
 
 -- the sink failed before it had the last exchange's text whole
-pub record Unwritten (account : List ℕ) (moment : ℕ) (traffic : Traffic) (history : List Entry) (done : ℕ) : Type 0 where
+pub record Unwritten (keys : Keys) (moment : ℕ) (traffic : Traffic) (history : List Entry) (done : ℕ) : Type 0 where
   pub exchanges : List Exchange
   pub last : Exchange
-  pub ran : Ran account moment history (exchanges ++ last ∷ [])
+  pub ran : Ran keys moment history (exchanges ++ last ∷ [])
   pub read : Consumes traffic.left_before traffic.left (bytes_of (exchanges ++ last ∷ []))
   pub count : ℕ
   pub short : count < length last.text
@@ -120,12 +121,12 @@ pub record Unwritten (account : List ℕ) (moment : ℕ) (traffic : Traffic) (hi
   pub counted : done ≡ length exchanges
 
 -- how a schedule stopped
-abbrev pub Stops : List ℕ → ℕ → Traffic → List Entry → ℕ → Stop → Type 0
-Stops account moment traffic history done End = Finished account moment traffic history done
-Stops account moment traffic history done Refused = RefusedNext account moment traffic history done
-Stops account moment traffic history done ReadFault = LeftOff IsCutShort account moment traffic history done
-Stops account moment traffic history done WriteFault = Unwritten account moment traffic history done
-Stops account moment traffic history done Memory = LeftOff IsOneAtMost account moment traffic history done
+abbrev pub Stops : Keys → ℕ → Traffic → List Entry → ℕ → Stop → Type 0
+Stops keys moment traffic history done End = Finished keys moment traffic history done
+Stops keys moment traffic history done Refused = RefusedNext keys moment traffic history done
+Stops keys moment traffic history done ReadFault = LeftOff IsCutShort keys moment traffic history done
+Stops keys moment traffic history done WriteFault = Unwritten keys moment traffic history done
+Stops keys moment traffic history done Memory = LeftOff IsOneAtMost keys moment traffic history done
 
 -- ---- the last line
 

@@ -1,187 +1,142 @@
--- What a session keeps of a walk, what a request comes to, and what one step does.
-use Rattle.std.specs.Prelude.{◌≡◌, ℕ, ◌+◌, ◌<◌, ◌≤◌, ◌⊎◌, max, List, [], ◌∷◌, ◌++◌, codes, Option, Some, None, Ok, Err}
-use Rattle.tab_keys.specs.declared.keys.Key.{Key}
-use Rattle.tab_keys.specs.declared.bounds.Bound.TheVariants.{At, End}
-use Rattle.tab_edm.specs.declared.TheConstants.{GREATEST}
-use Rattle.tab_rows.specs.Rows.{RowView, row_at}
-use Rattle.tab_page.specs.Pages.{page_below}
+-- What a session keeps of a walk, the entries of a decided request, and what one step does.
+use Rattle.std.specs.Prelude.{◌≡◌, ℕ, ◌+◌, List, [], ◌∷◌, ◌++◌, true, false, Option, Some, None, option_map, Ok, Err}
+use Rattle.tab_keys.specs.declared.bounds.Bound.TheVariants.{At}
+use Rattle.tab_auth.specs.declared.signatures.Keys.{Keys}
 use Rattle.tab_page.specs.declared.pages.Options.{Options}
 use Rattle.tab_ops.specs.Groups.{ItemView}
-use Rattle.tab_ops.specs.Changes.{group_outcome, applied, IsTimely}
-use Rattle.tab_history.specs.World.{IsNextTick}
+use Rattle.tab_history.specs.World.{Named, table_of, IsNextTick}
 use Rattle.tab_history.specs.Legality.{Legal}
 use Rattle.tab_history.specs.declared.entries.Entry.{Entry}
-use Rattle.tab_history.specs.declared.entries.Entry.TheVariants.{Resolve, Get, Page, Change, Denied}
-use Rattle.tab_history.specs.declared.entries.Denied.TheVariants.{NotFound, Op, TimeSpent, Memory}
-use Rattle.tab_ops.specs.declared.groups.OpRefused.{OpRefused}
-use Rattle.tab_ops.specs.declared.plans.Changes.{Changes}
+use Rattle.tab_history.specs.declared.entries.Entry.TheVariants.{Resolve, Get, Page, Change, Create, Drop, List as Listed, Denied}
+use Rattle.tab_history.specs.declared.entries.Denied.TheVariants.{NoTable, TableThere, NotFound, Op, TimeSpent, IdsSpent, Memory}
 use Rattle.tab_history.specs.declared.exchanges.Ask.{Ask}
-use Rattle.tab_history.specs.declared.exchanges.Ask.TheVariants.{Get as Getting, Page as Listing, Change as Writing}
+use Rattle.tab_history.specs.declared.exchanges.Ask.TheVariants.{Create as Creating, Drop as Dropping, Tables as Listing, Get as Getting, Page as Paging, Change as Writing}
 use Rattle.tab_history.specs.declared.exchanges.Reply.{Reply}
-use Rattle.tab_history.specs.declared.exchanges.Reply.TheVariants.{Found, Listed, Changed, Denied as Refusal}
+use Rattle.tab_history.specs.declared.exchanges.Reply.TheVariants.{Found, Listed as PageGiven, Changed as Written, Made, Dropped as Gone, Tables, Denied as Refusal}
 use Rattle.tab_service.specs.declared.forms.Request.{Request}
 use Rattle.tab_service.specs.Replies.{reply_text}
-use Rattle.tab_drive.specs.Walk.{Walk, first_world, name_of, Happens, reply_outcome, walk_after, IsOutOfForm}
+use Rattle.tab_drive.specs.Walk.{Walk, name_of, Happens, reply_outcome, walk_after}
+use Rattle.tab_drive.specs.Stores.{Held, held_by, held_then, IsDecided}
+use Rattle.tab_drive.specs.declared.look_ups.LookUp.{LookUp}
 use Rattle.tab_drive.specs.declared.schedule.Scheduled.{Scheduled}
-use Rattle.tab_drive.specs.declared.schedule.Scheduled.TheVariants.{Call}
 use Rattle.tab_drive.specs.declared.session.Session.{Session}
+use Rattle.tab_drive.specs.declared.stores.Decided.{Decided}
 
--- the number of the one table
-abbrev pub goods : ℕ
-goods = 1
+-- what the walk says that the store holds
+abbrev pub held_in : Walk → Held
+held_in walk = record {
+  names = walk.past.world.names;
+  next_table = walk.past.world.next_table;
+  rows = walk.past.world.rows;
+  next_tick = walk.next_tick;
+}
 
--- the walk's store has one table, one number for all floors, and one range
+-- the walk's store has one number for all floors, and one range
 pub record IsServing (walk : Walk) : Type 0 where
   pub floors : IsNextTick walk.past.world.floors walk.next_tick
-  pub names : walk.past.world.names ≡ first_world.names
   pub bounds : walk.past.bounds ≡ At 0 [] ∷ []
 
 -- the session stands where the walk does
 pub record Keeps (session : Session) (walk : Walk) : Type 0 where
   pub moment : session.moment ≡ walk.moment
   pub number : session.number ≡ walk.number
-  pub next_tick : session.next_tick ≡ walk.next_tick
-  pub rows : session.rows.rows ≡ walk.past.world.rows
+  pub held : held_by session.store ≡ held_in walk
   pub serving : IsServing walk
 
--- the requests that are served: a point read, a page, and a group of one item, all of the one table
-abbrev pub IsServedAsk : Ask → Type 0
-IsServedAsk (Getting name pk rk) = name ≡ codes "Goods"
-IsServedAsk (Listing name options) = name ≡ codes "Goods"
-IsServedAsk (Writing group) = (item : ItemView) × (group ≡ item ∷ []) × (item.name ≡ codes "Goods")
+-- ---- the entries of a decided request
 
--- the reply to a point read
-abbrev pub found_or_not : Option RowView → Reply
-found_or_not (Some row) = Found row
-found_or_not None = Refusal NotFound
+-- the look-up of the table whose rows a request is about
+abbrev pub look_up : List Named → Ask → Option LookUp
+look_up names what = option_map (λ name. record { name = name; table = table_of names name }) (name_of what)
 
--- ---- what a request comes to over these rows: its reply, and the changes that it makes
+-- the entry of a table's creation, with the number that is next
+abbrev pub create_entry : ℕ → ℕ → List ℕ → Reply → Entry
+create_entry number next_table name (Made spelled) = Create number name (Some next_table)
+create_entry number next_table name (Refusal TableThere) = Create number name None
+create_entry number next_table name (Refusal IdsSpent) = Denied number IdsSpent
+create_entry number next_table name _ = Denied number Memory
 
--- no memory was found
-abbrev pub Lacks : Reply → Option Changes → Type 0
-Lacks reply changes = (reply ≡ Refusal Memory) × (changes ≡ None)
+abbrev pub drop_entry : ℕ → List ℕ → Reply → Entry
+drop_entry number name Gone = Drop number name true
+drop_entry number name (Refusal NoTable) = Drop number name false
+drop_entry number name _ = Denied number Memory
 
--- the row at a key, or that there is none
-abbrev pub Gets : List RowView → Key → Reply → Option Changes → Type 0
-Gets rows key reply changes = (reply ≡ found_or_not (row_at rows key)) × (changes ≡ None)
+abbrev pub list_entry : ℕ → Option (List ℕ) → ℕ → Reply → Entry
+list_entry number after top (Tables names next) = Listed number after top names next
+list_entry number after top _ = Denied number Memory
 
--- the page up to the end of all keys
-abbrev pub Lists : List RowView → Options → Reply → Option Changes → Type 0
-Lists rows options reply changes = (reply ≡ Listed (page_below rows goods options End)) × (changes ≡ None)
+abbrev pub get_entry : ℕ → ℕ → List ℕ → List ℕ → Reply → Entry
+get_entry number table pk rk (Found row) = Get number table pk rk (Some row)
+get_entry number table pk rk (Refusal NotFound) = Get number table pk rk None
+get_entry number table pk rk _ = Denied number Memory
 
--- the group stands with this tick
-pub record Makes (rows : List RowView) (tick : ℕ) (group : List ItemView) (reply : Reply) (changes : Option Changes) : Type 0 where
-  pub made : Changes
-  pub changes_are : changes ≡ Some made
-  pub tick_is : made.tick ≡ tick
-  pub reply_is : reply ≡ Changed tick
-  pub in_time : tick ≤ GREATEST
-  pub outcome : group_outcome rows goods tick group ≡ Ok (applied rows made.list)
+abbrev pub page_entry : ℕ → ℕ → Options → Reply → Entry
+page_entry number table options (PageGiven page) = Page number table options page
+page_entry number table options _ = Denied number Memory
 
--- the group is refused
-pub record Refuses (rows : List RowView) (tick : ℕ) (group : List ItemView) (reply : Reply) (changes : Option Changes) : Type 0 where
-  pub refusal : OpRefused
-  pub none : changes ≡ None
-  pub reply_is : reply ≡ Refusal (Op refusal)
-  pub in_time : tick ≤ GREATEST
-  pub timely : IsTimely refusal
-  pub outcome : group_outcome rows goods tick group ≡ Err refusal
+abbrev pub change_entry : ℕ → ℕ → ℕ → List ItemView → Reply → Entry
+change_entry number moment table group (Written tick) = Change number moment table group (Ok tick)
+change_entry number moment table group (Refusal (Op refusal)) = Change number moment table group (Err refusal)
+change_entry number moment table group (Refusal TimeSpent) = Denied number TimeSpent
+change_entry number moment table group _ = Denied number Memory
 
--- no moment is left for the tick
-pub record Spends (tick : ℕ) (reply : Reply) (changes : Option Changes) : Type 0 where
-  pub none : changes ≡ None
-  pub reply_is : reply ≡ Refusal TimeSpent
-  pub spent : GREATEST < tick
+-- the entry of the answer to a command on tables
+abbrev pub table_entry : ℕ → ℕ → Ask → Reply → Entry
+table_entry number next_table (Creating name) reply = create_entry number next_table name reply
+table_entry number next_table (Dropping name) reply = drop_entry number name reply
+table_entry number next_table (Listing after top) reply = list_entry number after top reply
+table_entry number next_table _ reply = Denied number Memory
 
-abbrev pub IsDecided : List RowView → ℕ → Ask → Reply → Option Changes → Type 0
-IsDecided rows tick (Getting name pk rk) reply changes = Gets rows (record { table = goods; pk = pk; rk = rk }) reply changes ⊎ Lacks reply changes
-IsDecided rows tick (Listing name options) reply changes = Lists rows options reply changes ⊎ Lacks reply changes
-IsDecided rows tick (Writing group) reply changes =
-    Makes rows tick group reply changes ⊎ (Refuses rows tick group reply changes ⊎ (Spends tick reply changes ⊎ Lacks reply changes))
+-- the entry of the answer to a request about the rows of a table
+abbrev pub row_entry : ℕ → ℕ → ℕ → Ask → Reply → Entry
+row_entry number moment table (Getting name pk rk) reply = get_entry number table pk rk reply
+row_entry number moment table (Paging name options) reply = page_entry number table options reply
+row_entry number moment table (Writing group) reply = change_entry number moment table group reply
+row_entry number moment table _ reply = Denied number Memory
 
--- the entry of a point read's answer
-abbrev pub get_entry : ℕ → List ℕ → List ℕ → Reply → Entry
-get_entry number pk rk (Found row) = Get number goods pk rk (Some row)
-get_entry number pk rk (Refusal NotFound) = Get number goods pk rk None
-get_entry number pk rk (Refusal TimeSpent) = Denied number Memory
-get_entry number pk rk (Refusal Memory) = Denied number Memory
-get_entry number pk rk (Refusal (Op refusal)) = Denied number Memory
-get_entry number pk rk (Listed page) = Denied number Memory
-get_entry number pk rk (Changed tick) = Denied number Memory
+-- the entry behind a look-up; none where it found no table
+abbrev pub behind_look_up : ℕ → ℕ → Option ℕ → Ask → Reply → List Entry
+behind_look_up number moment None what reply = []
+behind_look_up number moment (Some table) what reply = row_entry number moment table what reply ∷ []
 
--- the entry of a query's answer
-abbrev pub page_entry : ℕ → Options → Reply → Entry
-page_entry number options (Listed page) = Page number goods options page
-page_entry number options (Found row) = Denied number Memory
-page_entry number options (Changed tick) = Denied number Memory
-page_entry number options (Refusal why) = Denied number Memory
+abbrev pub entries_by : Option LookUp → ℕ → ℕ → ℕ → Ask → Reply → List Entry
+entries_by None number moment next_table what reply = table_entry number next_table what reply ∷ []
+entries_by (Some look) number moment next_table what reply = Resolve number look.name look.table ∷ behind_look_up number moment look.table what reply
 
--- the entry of a change's answer
-abbrev pub change_entry : ℕ → ℕ → List ItemView → Reply → Entry
-change_entry number moment group (Changed tick) = Change number moment goods group (Ok tick)
-change_entry number moment group (Refusal (Op refusal)) = Change number moment goods group (Err refusal)
-change_entry number moment group (Refusal NotFound) = Denied number Memory
-change_entry number moment group (Refusal TimeSpent) = Denied number TimeSpent
-change_entry number moment group (Refusal Memory) = Denied number Memory
-change_entry number moment group (Found row) = Denied number Memory
-change_entry number moment group (Listed page) = Denied number Memory
+-- the entries of a request over what the store held
+abbrev pub entries_for : ℕ → ℕ → Held → Ask → Reply → List Entry
+entries_for number moment held what reply = entries_by (look_up held.names what) number moment held.next_table what reply
 
--- the entry of a request's answer
-abbrev pub entry_of : ℕ → ℕ → Ask → Reply → Entry
-entry_of number moment (Getting name pk rk) reply = get_entry number pk rk reply
-entry_of number moment (Listing name options) reply = page_entry number options reply
-entry_of number moment (Writing group) reply = change_entry number moment group reply
-
--- the entries of a request
-abbrev pub entries_for : ℕ → ℕ → Ask → Reply → List Entry
-entries_for number moment what reply = Resolve number (name_of what) (Some goods) ∷ entry_of number moment what reply ∷ []
-
--- the rows and the least tick of the next change, with changes that were made
-abbrev pub rows_then : List RowView → Option Changes → List RowView
-rows_then rows None = rows
-rows_then rows (Some changes) = applied rows changes.list
-
-abbrev pub next_then : ℕ → Option Changes → ℕ
-next_then next None = next
-next_then next (Some changes) = changes.tick + 1
+-- ---- steps
 
 -- the event happened: the history has its entries, which are legal, and the session stands where the walk does after it
-pub record Stepped (account : List ℕ) (walk : Walk) (event : Scheduled) (text : List ℕ) (old new : Session) : Type 0 where
+pub record Stepped (keys : Keys) (walk : Walk) (event : Scheduled) (text : List ℕ) (old new : Session) : Type 0 where
   pub entries : List Entry
-  pub happens : Happens account walk event entries text
+  pub happens : Happens keys walk event entries text
   pub legal : Legal walk.past entries
   pub keeps : Keeps new (walk_after walk event entries)
   pub history : new.history.items ≡ old.history.items ++ entries
 
 -- a request was answered with this text, and the history has its entries
 pub record Replied (old new : Session) (request : Request) (text : List ℕ) : Type 0 where
-  pub reply : Reply
-  pub changes : Option Changes
-  pub decided : IsDecided old.rows.rows (max old.moment old.next_tick) request.ask reply changes
-  pub written : text ≡ reply_outcome (reply_text request reply)
-  pub history : new.history.items ≡ old.history.items ++ entries_for old.number old.moment request.ask reply
-  pub rows : new.rows.rows ≡ rows_then old.rows.rows changes
-  pub next : new.next_tick ≡ next_then old.next_tick changes
+  pub decided : Decided
+  pub comes : IsDecided (held_by old.store) old.moment request.ask decided
+  pub written : text ≡ reply_outcome (reply_text request decided.reply)
+  pub history : new.history.items ≡ old.history.items ++ entries_for old.number old.moment (held_by old.store) request.ask decided.reply
+  pub held : held_by new.store ≡ held_then (held_by old.store) decided.effect
   pub number : new.number ≡ old.number + 1
   pub moment : new.moment ≡ old.moment
 
 -- nothing changed but the room for more
 pub record Unchanged (old new : Session) : Type 0 where
   pub history : new.history.items ≡ old.history.items
-  pub rows : new.rows.rows ≡ old.rows.rows
-  pub next : new.next_tick ≡ old.next_tick
+  pub held : held_by new.store ≡ held_by old.store
   pub number : new.number ≡ old.number
   pub moment : new.moment ≡ old.moment
 
--- a request was refused, and nothing changed but the number of the next event
+-- a message was refused, and nothing changed but the number of the next event
 pub record RefusedAt (old new : Session) : Type 0 where
   pub history : new.history.items ≡ old.history.items
-  pub rows : new.rows.rows ≡ old.rows.rows
-  pub next : new.next_tick ≡ old.next_tick
+  pub held : held_by new.store ≡ held_by old.store
   pub number : new.number ≡ old.number + 1
   pub moment : new.moment ≡ old.moment
-
--- the event is a message that is out of form
-abbrev pub IsOutOfFormEvent : List ℕ → Walk → Scheduled → Type 0
-IsOutOfFormEvent account walk (Call message) = IsOutOfForm account message
-IsOutOfFormEvent account walk event = ⊥

@@ -1,27 +1,28 @@
 -- The walk through a schedule: what each event takes from the history and gives as text.
-use Rattle.std.specs.Prelude.{◌≡◌, ℕ, ◌+◌, ◌-◌, ◌^◌, ◌<◌, ◌≤◌, ◌⊎◌, max, List, [], ◌∷◌, ◌++◌, length, codes, decimal, Option, Some, None, Result, Ok, Err, ⊤}
+use Rattle.std.specs.Prelude.{◌≡◌, ℕ, ◌+◌, ◌-◌, ◌^◌, ◌<◌, ◌≤◌, ◌⊎◌, max, List, [], ◌∷◌, ◌++◌, length, codes, decimal, true, false, Option, Some, None, Result, Ok, Err, ⊤}
 use Rattle.std.specs.List.{flat_map}
 use Rattle.tab_keys.specs.declared.bounds.Bound.TheVariants.{At}
 use Rattle.tab_edm.specs.declared.TheConstants.{GREATEST}
+use Rattle.tab_auth.specs.declared.signatures.Keys.{Keys}
 use Rattle.tab_ops.specs.Groups.{ItemView}
-use Rattle.tab_history.specs.World.{World}
+use Rattle.tab_ops.specs.declared.groups.OpRefused.{OpRefused}
+use Rattle.tab_history.specs.World.{World, table_of}
 use Rattle.tab_history.specs.Legality.{State, accepted, after_all}
 use Rattle.tab_history.specs.declared.entries.Entry.{Entry}
-use Rattle.tab_history.specs.declared.entries.Entry.TheVariants.{Bounds, Resolve, Get, Page, Change, Denied}
+use Rattle.tab_history.specs.declared.entries.Entry.TheVariants.{Bounds, Resolve, Get, Page, Change, Create, Drop, List as Listed, Denied}
 use Rattle.tab_history.specs.declared.entries.Denied.{Denied as Why}
-use Rattle.tab_history.specs.declared.entries.Denied.TheVariants.{NotFound, Op, TimeSpent, Memory}
+use Rattle.tab_history.specs.declared.entries.Denied.TheVariants.{NoTable, TableThere, NotFound, Op, TimeSpent, IdsSpent, Memory}
 use Rattle.tab_history.specs.declared.entries.Doubt.{Doubt}
-use Rattle.tab_history.specs.declared.entries.Doubt.TheVariants.{Change as Changing}
-use Rattle.tab_ops.specs.declared.groups.OpRefused.{OpRefused}
+use Rattle.tab_history.specs.declared.entries.Doubt.TheVariants.{Change as Changed, Create as Created, Drop as Dropped}
 use Rattle.tab_history.specs.declared.exchanges.Ask.{Ask}
-use Rattle.tab_history.specs.declared.exchanges.Ask.TheVariants.{Get as Getting, Page as Listing, Change as Writing}
+use Rattle.tab_history.specs.declared.exchanges.Ask.TheVariants.{Create as Creating, Drop as Dropping, Tables as Listing, Get as Getting, Page as Paging, Change as Writing}
 use Rattle.tab_history.specs.declared.exchanges.Reply.{Reply}
-use Rattle.tab_history.specs.declared.exchanges.Reply.TheVariants.{Found, Listed, Changed, Denied as Refusal}
+use Rattle.tab_history.specs.declared.exchanges.Reply.TheVariants.{Found, Listed as PageGiven, Changed as Written, Made, Dropped as Gone, Tables, Denied as Refusal}
 use Rattle.tab_service.specs.declared.forms.Request.{Request}
 use Rattle.tab_service.specs.declared.decisions.Decided.TheVariants.{Go, No}
-use Rattle.tab_service.specs.Decisions.{IsDecision}
 use Rattle.tab_service.specs.Replies.{reply_text}
 use Rattle.tab_drive.specs.Schedule.{line_feed, spelling, Fits, IsNoEvent, end_line}
+use Rattle.tab_drive.specs.Messages.{ComeTo}
 use Rattle.tab_drive.specs.declared.schedule.Scheduled.{Scheduled}
 use Rattle.tab_drive.specs.declared.schedule.Scheduled.TheVariants.{Now, Call}
 
@@ -39,11 +40,11 @@ pub record Exchange : Type 0 where
   pub entries : List Entry
   pub text : List ℕ
 
--- the world of a store that was just made: one table, no row
+-- the world of a store that was just made, without tables
 abbrev pub first_world : World
 first_world = record {
-  names = record { spelling = codes "Goods"; table = 1 } ∷ [];
-  next_table = 2;
+  names = [];
+  next_table = 1;
   rows = [];
   floors = record { opening = []; later = [] };
 }
@@ -63,7 +64,9 @@ first_walk moment = record { moment = moment; number = 1; next_tick = 0; past = 
 -- the least tick of the next change, after one entry and after several
 abbrev pub tick_after : ℕ → Option Doubt → ℕ
 tick_after next None = next
-tick_after next (Some (Changing table group tick)) = tick + 1
+tick_after next (Some (Changed table group tick)) = tick + 1
+tick_after next (Some (Created name table)) = next
+tick_after next (Some (Dropped name)) = next
 
 abbrev pub next_tick_after : ℕ → List Entry → ℕ
 next_tick_after next [] = next
@@ -82,65 +85,122 @@ walk_after walk event entries = record {
   past = after_all walk.past entries;
 }
 
+-- ---- requests
+
 -- the name of the first item's table
 abbrev pub group_name : List ItemView → List ℕ
 group_name [] = []
 group_name (item ∷ items) = item.name
 
--- the table that a request asks about
-abbrev pub name_of : Ask → List ℕ
-name_of (Getting name pk rk) = name
-name_of (Listing name options) = name
-name_of (Writing group) = group_name group
+-- the name of the table whose rows a request is about; none for a command on tables
+abbrev pub name_of : Ask → Option (List ℕ)
+name_of (Creating name) = None
+name_of (Dropping name) = None
+name_of (Listing after top) = None
+name_of (Getting name pk rk) = Some name
+name_of (Paging name options) = Some name
+name_of (Writing group) = Some (group_name group)
+
+-- the last number of 64 bits, which no event and no table gets
+abbrev pub last_number : ℕ
+last_number = 2 ^ 64 - 1
 
 -- the tick of a change that stands: that of the moment, or the next one where that is later
 abbrev pub HasTick : Walk → Result ℕ OpRefused → Type 0
 HasTick walk (Ok tick) = tick ≡ max walk.moment walk.next_tick
 HasTick walk (Err refusal) = ⊤
 
--- no moment is left for the tick of the change that is asked for
-abbrev pub IsSpent : Walk → Ask → Type 0
-IsSpent walk (Getting name pk rk) = ⊥
-IsSpent walk (Listing name options) = ⊥
-IsSpent walk (Writing group) = GREATEST < max walk.moment walk.next_tick
+-- a number is left for a table that is made
+abbrev pub HasNumber : Walk → Option ℕ → Type 0
+HasNumber walk (Some table) = walk.past.world.next_table < last_number
+HasNumber walk None = ⊤
 
--- the reasons for which a request may be denied whatever the rows are
+-- no moment is left for the tick of the change that is asked for
+abbrev pub IsTimeSpent : Walk → Ask → Type 0
+IsTimeSpent walk (Writing group) = GREATEST < max walk.moment walk.next_tick
+IsTimeSpent walk _ = ⊥
+
+-- no number is left for the table that is to be made, and none has its name
+abbrev pub AreNumbersSpent : Walk → Ask → Type 0
+AreNumbersSpent walk (Creating name) = (table_of walk.past.world.names name ≡ None) × (last_number ≤ walk.past.world.next_table)
+AreNumbersSpent walk _ = ⊥
+
+-- the reasons for which a request may be denied whatever the world is
 abbrev pub MayDeny : Walk → Ask → Why → Type 0
+MayDeny walk what NoTable = ⊥
+MayDeny walk what TableThere = ⊥
 MayDeny walk what NotFound = ⊥
 MayDeny walk what (Op refusal) = ⊥
-MayDeny walk what TimeSpent = IsSpent walk what
+MayDeny walk what TimeSpent = IsTimeSpent walk what
+MayDeny walk what IdsSpent = AreNumbersSpent walk what
 MayDeny walk what Memory = ⊤
 
--- The entry answers the request, which has the walk's number. A change is answered only where a moment is left for its tick.
+-- The entry answers the request, which has the walk's number. A request about the rows of a table that is not there is
+-- answered by its look-up. A change is answered only where a moment is left for its tick.
 abbrev pub IsAnswer : Walk → Ask → Entry → Type 0
+IsAnswer walk (Creating name) (Create ask made table) = (ask ≡ walk.number) × (made ≡ name) × HasNumber walk table
+IsAnswer walk (Dropping name) (Drop ask dropped stood) = (ask ≡ walk.number) × (dropped ≡ name)
+IsAnswer walk (Listing after top) (Listed ask from most names next) = (ask ≡ walk.number) × (from ≡ after) × (most ≡ top)
 IsAnswer walk (Getting name pk rk) (Get ask table p r found) = (ask ≡ walk.number) × (p ≡ pk) × (r ≡ rk)
-IsAnswer walk (Listing name options) (Page ask table asked page) = (ask ≡ walk.number) × (asked ≡ options)
+IsAnswer walk (Paging name options) (Page ask table asked page) = (ask ≡ walk.number) × (asked ≡ options)
 IsAnswer walk (Writing group) (Change ask now table acted result) =
     (ask ≡ walk.number) × (now ≡ walk.moment) × (acted ≡ group) × (max walk.moment walk.next_tick ≤ GREATEST) × HasTick walk result
+IsAnswer walk what (Resolve ask name None) = (ask ≡ walk.number) × (name_of what ≡ Some name)
 IsAnswer walk what (Denied ask why) = (ask ≡ walk.number) × MayDeny walk what why
 IsAnswer walk what entry = ⊥
 
 -- the reply that an entry stands for
 abbrev pub reply_of : Entry → Option Reply
+reply_of (Bounds bounds) = None
+reply_of (Resolve ask name (Some table)) = None
+reply_of (Resolve ask name None) = Some (Refusal NoTable)
 reply_of (Get ask table pk rk (Some row)) = Some (Found row)
 reply_of (Get ask table pk rk None) = Some (Refusal NotFound)
-reply_of (Page ask table options page) = Some (Listed page)
-reply_of (Change ask now table group (Ok tick)) = Some (Changed tick)
+reply_of (Page ask table options page) = Some (PageGiven page)
+reply_of (Change ask now table group (Ok tick)) = Some (Written tick)
 reply_of (Change ask now table group (Err refusal)) = Some (Refusal (Op refusal))
+reply_of (Create ask name (Some table)) = Some (Made name)
+reply_of (Create ask name None) = Some (Refusal TableThere)
+reply_of (Drop ask name true) = Some Gone
+reply_of (Drop ask name false) = Some (Refusal NoTable)
+reply_of (Listed ask from top names next) = Some (Tables names next)
 reply_of (Denied ask why) = Some (Refusal why)
-reply_of (Bounds bounds) = None
-reply_of (Resolve ask name table) = None
 
--- no memory was found
-abbrev pub IsMemory : Entry → Type 0
-IsMemory (Denied ask Memory) = ⊤
-IsMemory entry = ⊥
+-- an answer with no look-up before it: to a command on tables, that a look-up found no table, or that no memory was found
+abbrev pub StandsAlone : Entry → Type 0
+StandsAlone (Bounds bounds) = ⊥
+StandsAlone (Resolve ask name (Some table)) = ⊥
+StandsAlone (Resolve ask name None) = ⊤
+StandsAlone (Get ask table pk rk found) = ⊥
+StandsAlone (Page ask table options page) = ⊥
+StandsAlone (Change ask now table group result) = ⊥
+StandsAlone (Create ask name table) = ⊤
+StandsAlone (Drop ask name stood) = ⊤
+StandsAlone (Listed ask from top names next) = ⊤
+StandsAlone (Denied ask IdsSpent) = ⊤
+StandsAlone (Denied ask Memory) = ⊤
+StandsAlone (Denied ask _) = ⊥
 
--- a request's entries: its look-up and its answer, or the one word that no memory was found
+-- an answer behind a look-up that found the table
+abbrev pub StandsBehind : Entry → Type 0
+StandsBehind (Get ask table pk rk found) = ⊤
+StandsBehind (Page ask table options page) = ⊤
+StandsBehind (Change ask now table group result) = ⊤
+StandsBehind (Denied ask TimeSpent) = ⊤
+StandsBehind (Denied ask Memory) = ⊤
+StandsBehind _ = ⊥
+
+-- a look-up that found the table, and the answer behind it
+pub record LooksUp (walk : Walk) (what : Ask) (answer : Entry) (entries : List Entry) : Type 0 where
+  pub name : List ℕ
+  pub named : name_of what ≡ Some name
+  pub table : ℕ
+  pub behind : StandsBehind answer
+  pub entries_are : entries ≡ Resolve walk.number name (Some table) ∷ answer ∷ []
+
+-- a request's entries: its look-up and its answer, or its answer alone
 abbrev pub Takes : Walk → Ask → Entry → List Entry → Type 0
-Takes walk what answer entries =
-    ((table : Option ℕ) × (entries ≡ Resolve walk.number (name_of what) table ∷ answer ∷ []))
-    ⊎ ((entries ≡ answer ∷ []) × IsMemory answer)
+Takes walk what answer entries = LooksUp walk what answer entries ⊎ (StandsAlone answer × (entries ≡ answer ∷ []))
 
 -- the line of a reply's length, its bytes, and a line's end
 unfoldable pub reply_outcome : List ℕ → List ℕ
@@ -150,10 +210,10 @@ reply_outcome bytes = codes "reply " ++ decimal (length bytes) ++ line_feed ∷ 
 unfoldable pub done_outcome : List ℕ
 done_outcome = codes "ok\n"
 
--- a message is read, answered and replied to
-pub record Answers (account : List ℕ) (walk : Walk) (message : List ℕ) (entries : List Entry) (text : List ℕ) : Type 0 where
+-- a message asks something, and is answered and replied to
+pub record Answers (keys : Keys) (walk : Walk) (message : List ℕ) (entries : List Entry) (text : List ℕ) : Type 0 where
   pub request : Request
-  pub reads : IsDecision account message (Some (Go request))
+  pub comes : ComeTo keys walk.moment message (Go request)
   pub answer : Entry
   pub answers : IsAnswer walk request.ask answer
   pub takes : Takes walk request.ask answer entries
@@ -162,28 +222,24 @@ pub record Answers (account : List ℕ) (walk : Walk) (message : List ℕ) (entr
   pub written : text ≡ reply_outcome (reply_text request reply)
 
 -- a message is refused before the store is asked, and takes no entry
-pub record Refuses (account message : List ℕ) (entries : List Entry) (text : List ℕ) : Type 0 where
+pub record Refuses (keys : Keys) (walk : Walk) (message : List ℕ) (entries : List Entry) (text : List ℕ) : Type 0 where
   pub reply : List ℕ
-  pub reads : IsDecision account message (Some (No reply))
+  pub comes : ComeTo keys walk.moment message (No reply)
   pub none : entries ≡ []
   pub written : text ≡ reply_outcome reply
 
 -- what may happen at an event: the entries that it takes and the text that it gives
-abbrev pub Happens : List ℕ → Walk → Scheduled → List Entry → List ℕ → Type 0
-Happens account walk (Now moment) entries text = (entries ≡ []) × (text ≡ done_outcome)
-Happens account walk (Call message) entries text = Answers account walk message entries text ⊎ Refuses account message entries text
-
--- the last number of 64 bits, which no event gets
-abbrev pub last_number : ℕ
-last_number = 2 ^ 64 - 1
+abbrev pub Happens : Keys → Walk → Scheduled → List Entry → List ℕ → Type 0
+Happens keys walk (Now moment) entries text = (entries ≡ []) × (text ≡ done_outcome)
+Happens keys walk (Call message) entries text = Answers keys walk message entries text ⊎ Refuses keys walk message entries text
 
 -- each exchange is what may happen where the walk stands before it
-abbrev pub Follows : List ℕ → Walk → List Exchange → Type 0
-Follows account walk [] = ⊤
-Follows account walk (exchange ∷ exchanges) =
+abbrev pub Follows : Keys → Walk → List Exchange → Type 0
+Follows keys walk [] = ⊤
+Follows keys walk (exchange ∷ exchanges) =
     Fits exchange.event × (walk.number < last_number)
-    × Happens account walk exchange.event exchange.entries exchange.text
-    × Follows account (walk_after walk exchange.event exchange.entries) exchanges
+    × Happens keys walk exchange.event exchange.entries exchange.text
+    × Follows keys (walk_after walk exchange.event exchange.entries) exchanges
 
 -- where the walk stands after exchanges
 abbrev pub walk_after_all : Walk → List Exchange → Walk
@@ -200,14 +256,6 @@ entries_of exchanges = flat_map (λ exchange. exchange.entries) exchanges
 abbrev pub text_of : List Exchange → List ℕ
 text_of exchanges = flat_map (λ exchange. exchange.text) exchanges
 
--- the message comes to nothing that is served
-abbrev pub IsOutOfForm : List ℕ → List ℕ → Type 0
-IsOutOfForm account message = IsDecision account message None
-
--- the walk goes on with no event of these bytes: none is spelled there, or its message is out of form, or numbers
--- have run out
-abbrev pub IsRefused : List ℕ → Walk → List ℕ → Type 0
-IsRefused account walk bytes =
-    IsNoEvent bytes
-    ⊎ ((message : List ℕ) × (rest : List ℕ) × Fits (Call message) × (bytes ≡ spelling (Call message) ++ rest) × IsOutOfForm account message)
-    ⊎ ((last_number ≤ walk.number) × ((rest : List ℕ) → bytes ≡ end_line ++ rest → ⊥))
+-- the walk goes on with no event of these bytes: none is spelled there, or numbers have run out
+abbrev pub IsRefused : Walk → List ℕ → Type 0
+IsRefused walk bytes = IsNoEvent bytes ⊎ ((last_number ≤ walk.number) × ((rest : List ℕ) → bytes ≡ end_line ++ rest → ⊥))

@@ -5,7 +5,7 @@ use tab_ops::ChangeList;
 use tab_rows::{Change, Rows};
 
 /// Makes the changes, for which there is room.
-pub fn apply(rows: &mut Rows, changes: ChangeList)
+pub fn apply_changes(rows: &mut Rows, changes: ChangeList)
     requires { length changes ≤ rows.old.spare }
     ensures { rows.new.rows ≡ applied rows.old.rows changes }
 {

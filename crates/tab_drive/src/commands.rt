@@ -1,19 +1,28 @@
-ghost use Rattle.std.specs.Prelude.{◌≡◌, ◌↔◌, ◌⊎◌, ◌<◌, ◌-◌, ◌^◌, ℕ, List, [], ◌≤◌, map, flat_map, string_bytes, Contains, MatchOption, Some};
+ghost use Rattle.std.specs.Prelude.{◌≡◌, ◌≢◌, ◌⊎◌, ◌<◌, ◌-◌, ◌^◌, ℕ, List, [], ◌≤◌, map, flat_map, string_bytes, Contains, MatchOption, IfOk, Some, None};
 ghost use Rattle.std.specs.List.{list_all};
+ghost use Rattle.base64.specs.Engines.{standard};
+ghost use Rattle.base64.specs.GeneralPurpose.{decoded_of};
 ghost use Rattle.tab_outside.specs.Faults.{Rose};
+ghost use Rattle.tab_auth.specs.declared.signatures.Keys.{Keys};
 ghost use Rattle.tab_history.specs.Legality.{Legal};
 ghost use Rattle.tab_history.specs.Followed.{FollowedWell, FollowedStill};
 ghost use Rattle.tab_history.specs.Ticks.{TicksRise, TicksTellRows};
+ghost use Rattle.tab_history.specs.Numbers.{NumbersRise, MadeNew, DropsHide};
 ghost use Rattle.tab_drive.specs.Walk.{first_state};
-ghost use Rattle.tab_drive.specs.Runs.{TookLine, usage_line};
-ghost use Rattle.tab_drive.specs.Commands.{IsDrive, IsNoCommand, is_account, is_account_byte, status_of, line_of, Drives, SaidOnly, exit_statuses};
+ghost use Rattle.tab_drive.specs.Runs.{TookLine, usage_line, memory_line};
+ghost use Rattle.tab_drive.specs.Commands.{IsDrive, IsNoCommand, IsNamed, is_account, is_account_byte, key_of, status_of, line_of, Drives, SaidOnly, exit_statuses};
 ghost use Rattle.tab_drive.specs.Completeness.{IsServable};
 
 use crate::outgoing::write_pieces;
 use crate::serving::{Stop, serve};
+use base64::DecodeAllocError;
+use base64::engine::general_purpose::STANDARD;
 use itoa::Buffer;
 use std::alloc::Global;
+use tab_auth::Keys;
+use tab_edm::{BytesValue, TextValue};
 use tab_history::History;
+use tab_keys::Memory;
 use tab_outside::{Clock, Disk, Sink, Source};
 
 /// How a run ended.
@@ -29,7 +38,7 @@ pub struct Ended {
 
 const USAGE: &[u8] = b"usage: init / drive ACCOUNT KEY / load ACCOUNT COUNT / show\n";
 
-/// Runs one command: `drive ACCOUNT -` serves the schedule that the source gives, over a store in memory.
+/// Runs one command: `drive ACCOUNT KEY` serves the schedule that the source gives, over a store in memory.
 pub fn run<S: Source, K: Sink, D: Disk, C: Clock>(
     alloc: Global,
     words: &[String],
@@ -50,22 +59,29 @@ pub fn run<S: Source, K: Sink, D: Disk, C: Clock>(
     ensures ticks { TicksRise result.history }
     ensures versions { TicksTellRows first_state result.history }
 
+    // A table that is made has a new number, and no row. So the rows of a table that was dropped are never found again.
+    ensures numbers { NumbersRise result.history }
+    ensures made { MadeNew first_state result.history }
+    ensures dropped { DropsHide first_state result.history }
+
     // The schedule was read, its history made and its replies written, up to what stopped it.
-    ensures drives { (account : List ℕ) → IsDrive (map string_bytes words.now) account → Drives account (C.moment clock.new)
+    ensures drives { (keys : Keys) → IsDrive (map string_bytes words.now) keys → Drives keys (C.moment clock.new)
         (record { left_before = S.left input.old; left = S.left input.new; taken_before = K.taken output.old; taken = K.taken output.new })
         (K.faults output.old) (K.faults output.new) result.status result.history result.done }
 
     // No other status comes.
     ensures status { Contains exit_statuses result.status }
 
-    // A whole schedule, no event of which is refused, is served to its end where neither source nor sink fails, if
-    // memory is found.
-    ensures complete { (account bytes : List ℕ) → IsDrive (map string_bytes words.now) account → S.left input.old ≡ Some bytes
-        → IsServable account (C.moment clock.new) bytes → (Rose (S.faults input.old) (S.faults input.new) → ⊥) → (Rose (K.faults output.old) (K.faults output.new) → ⊥)
+    // A whole schedule is served to its end where neither source nor sink fails, if memory is found.
+    ensures complete { (keys : Keys) (bytes : List ℕ) → IsDrive (map string_bytes words.now) keys → S.left input.old ≡ Some bytes
+        → IsServable bytes → (Rose (S.faults input.old) (S.faults input.new) → ⊥) → (Rose (K.faults output.old) (K.faults output.new) → ⊥)
         → (result.status ≡ 0) ⊎ (result.status ≡ 7) }
 
-    // Other words are refused, and nothing is read.
-    ensures words { (result.status ≡ 1) ↔ IsNoCommand (map string_bytes words.now) }
+    // Other words are refused, if memory is found to read a key, and nothing is read.
+    ensures words { result.status ≡ 1 → IsNoCommand (map string_bytes words.now) }
+    ensures refused { IsNoCommand (map string_bytes words.now) → (result.status ≡ 1) ⊎ ((result.status ≡ 7) × SaidOnly
+        (record { left_before = S.left input.old; left = S.left input.new; taken_before = K.taken output.old; taken = K.taken output.new })
+        (K.faults output.old) (K.faults output.new) memory_line result.history result.done) }
     ensures usage { result.status ≡ 1 → SaidOnly
         (record { left_before = S.left input.old; left = S.left input.new; taken_before = K.taken output.old; taken = K.taken output.new })
         (K.faults output.old) (K.faults output.new) usage_line result.history result.done }
@@ -73,15 +89,34 @@ pub fn run<S: Source, K: Sink, D: Disk, C: Clock>(
     ensures write_fault { result.status ≡ 4 → Rose (K.faults output.old) (K.faults output.new) }
     ensures yard { yard.new.items ≡ yard.old.items }
 {
-    let Some(account) = account_of(words) else {
-        write_line(output, &[USAGE]);
-        return Ended {
-            status: 1,
-            history: History::new(Vec::new(alloc)),
-            done: 0,
-        };
-    };
-    match serve(alloc, account, clock.now(), input, output) {
+    match keys_of(alloc, words) {
+        Ok(Some(keys)) => drive(alloc, &keys, clock.now(), input, output),
+        Ok(None) => said_only(alloc, 1, USAGE, output),
+        Err(_) => said_only(alloc, 7, OUT_OF_MEMORY, output),
+    }
+}
+
+/// Serves a schedule for an account, and writes the last line.
+fn drive<S: Source, K: Sink>(
+    alloc: Global,
+    keys: &Keys,
+    moment: u64,
+    input: &mut S,
+    output: &mut K,
+) -> Ended
+    ensures legal { Legal first_state result.history }
+    ensures drives { Drives keys.now moment
+        (record { left_before = S.left input.old; left = S.left input.new; taken_before = K.taken output.old; taken = K.taken output.new })
+        (K.faults output.old) (K.faults output.new) result.status result.history result.done }
+    ensures status { Contains exit_statuses result.status }
+    ensures complete { (bytes : List ℕ) → S.left input.old ≡ Some bytes
+        → IsServable bytes → (Rose (S.faults input.old) (S.faults input.new) → ⊥) → (Rose (K.faults output.old) (K.faults output.new) → ⊥)
+        → (result.status ≡ 0) ⊎ (result.status ≡ 7) }
+    ensures command { result.status ≢ 1 }
+    ensures read_fault { result.status ≡ 3 → Rose (S.faults input.old) (S.faults input.new) }
+    ensures write_fault { result.status ≡ 4 → Rose (K.faults output.old) (K.faults output.new) }
+{
+    match serve(alloc, keys, moment, input, output) {
         Ok(served) => {
             write_last_line(output, served.stop, served.done);
             Ended {
@@ -90,30 +125,79 @@ pub fn run<S: Source, K: Sink, D: Disk, C: Clock>(
                 done: served.done,
             }
         }
-        Err(_) => {
-            write_line(output, &[OUT_OF_MEMORY]);
-            Ended {
-                status: 7,
-                history: History::new(Vec::new(alloc)),
-                done: 0,
-            }
-        }
+        Err(_) => said_only(alloc, 7, OUT_OF_MEMORY, output),
+    }
+}
+
+/// Writes one line, and ends with that status.
+fn said_only<K: Sink>(alloc: Global, status: u8, line: &[u8], output: &mut K) -> Ended
+    ensures status { result.status ≡ status }
+    ensures history { result.history ≡ [] }
+    ensures done { result.done ≡ 0 }
+    ensures line { TookLine (K.taken output.old) (K.taken output.new) (K.faults output.old) (K.faults output.new) line.now }
+    ensures later { K.faults output.old ≤ K.faults output.new }
+{
+    write_line(output, &[line]);
+    Ended {
+        status,
+        history: History::new(Vec::new(alloc)),
+        done: 0,
     }
 }
 
 const OUT_OF_MEMORY: &[u8] = b"out of memory\n";
 
-/// The account of the words `drive ACCOUNT -`.
-fn account_of(words: &[String]) -> Option<&str>
-    ensures { MatchOption result (IsNoCommand (map string_bytes words.now)) (λ account. IsDrive (map string_bytes words.now) account.now) }
+/// The account and the key of the words `drive ACCOUNT KEY`.
+fn keys_of(alloc: Global, words: &[String]) -> Result<Option<Keys>, Memory>
+    ensures { IfOk result (λ keys. MatchOption keys (IsNoCommand (map string_bytes words.now)) (IsDrive (map string_bytes words.now))) }
 {
     let [command, account, key] = words else {
-        return None;
+        return Ok(None);
     };
-    if command.as_str() == "drive" && key.as_str() == "-" && is_account(account.as_str()) {
-        Some(account.as_str())
+    if command.as_str() == "drive" && is_account(account.as_str()) {
+        named_keys(alloc, account.as_str(), key.as_str())
     } else {
-        None
+        Ok(None)
+    }
+}
+
+/// The account of that name with the key that a word says, if it says one.
+fn named_keys(alloc: Global, name: &str, word: &str) -> Result<Option<Keys>, Memory>
+    ensures { IfOk result (λ keys. MatchOption keys (key_of word.now ≡ None) (IsNamed name.now word.now)) }
+{
+    let Some(key) = key_of(alloc, word)? else {
+        return Ok(None);
+    };
+    match String::from_str(alloc, name) {
+        Ok(name) => Ok(Some(Keys {
+            account: TextValue::new(name),
+            key,
+        })),
+        Err(_) => Err(Memory),
+    }
+}
+
+/// The key that a word says: none for an open account, and otherwise its bytes in standard Base64.
+fn key_of(alloc: Global, word: &str) -> Result<Option<Option<BytesValue>>, Memory>
+    ensures { IfOk result (λ key. key ≡ key_of word.now) }
+{
+    if word == "-" {
+        return Ok(Some(None));
+    }
+    match decoded(alloc, word)? {
+        Some(key) => Ok(Some(Some(key))),
+        None => Ok(None),
+    }
+}
+
+/// The bytes that a text is in standard Base64.
+fn decoded(alloc: Global, text: &str) -> Result<Option<BytesValue>, Memory>
+    ensures { IfOk result (λ found. found ≡ decoded_of standard text.now) }
+{
+    match STANDARD.decode(alloc, text.as_bytes()) {
+        Ok(bytes) => Ok(Some(BytesValue::new(bytes))),
+        Err(DecodeAllocError::OutOfMemory) => Err(Memory),
+        Err(DecodeAllocError::DecodeError(_)) => Ok(None),
     }
 }
 

@@ -1,24 +1,30 @@
 ghost use Rattle.std.specs.Prelude.{◌≡◌, ℕ, List, ◌++◌, length};
+ghost use Rattle.tab_auth.specs.declared.signatures.Keys.{Keys};
 ghost use Rattle.tab_history.specs.declared.entries.Entry.{Entry};
-ghost use Rattle.tab_drive.specs.Walk.{Walk, Exchange, Follows, Happens, bytes_of, entries_of, text_of};
-ghost use Rattle.tab_drive.specs.Sessions.{IsOutOfFormEvent};
-ghost use Rattle.tab_drive.specs.declared.schedule.Scheduled.{Scheduled};
+ghost use Rattle.tab_service.specs.declared.decisions.Decided.{Decided};
+ghost use Rattle.tab_drive.specs.Messages.{ComeTo};
+ghost use Rattle.tab_drive.specs.Walk.{Walk, Exchange, Follows, bytes_of, entries_of, text_of};
+
+use tab_http::one_answer;
+use tab_service::messages_have_one_decision;
+
+/// The bytes of a message come to one request, or to the reply to one refusal.
+pub fn one_decision()
+    ensures { (keys : Keys) (moment : ℕ) (bytes : List ℕ) (a b : Decided) → ComeTo keys moment bytes a → ComeTo keys moment bytes b → a ≡ b }
+{
+    one_answer();
+    messages_have_one_decision();
+}
 
 /// What is written is a function of what is read and of the history.
-#[tactic(auto, using(crate::proofs::Texts::one_text, crate::proofs::Texts::same_front))]
 pub fn one_text()
     // Exchanges from one beginning that read the same bytes and take the same entries give the same text.
-    ensures text { (account : List ℕ) (walk : Walk) (xs ys : List Exchange) → Follows account walk xs → Follows account walk ys
+    ensures text { (keys : Keys) (walk : Walk) (xs ys : List Exchange) → Follows keys walk xs → Follows keys walk ys
         → bytes_of xs ≡ bytes_of ys → entries_of xs ≡ entries_of ys → text_of xs ≡ text_of ys }
     // So do as many exchanges at the front of one input and of one history.
-    ensures front { (account : List ℕ) (walk : Walk) (xs ys : List Exchange) (rest other : List ℕ) (later more : List Entry)
-        → Follows account walk xs → Follows account walk ys → bytes_of xs ++ rest ≡ bytes_of ys ++ other → entries_of xs ++ later ≡ entries_of ys ++ more
+    ensures front { (keys : Keys) (walk : Walk) (xs ys : List Exchange) (rest other : List ℕ) (later more : List Entry)
+        → Follows keys walk xs → Follows keys walk ys → bytes_of xs ++ rest ≡ bytes_of ys ++ other → entries_of xs ++ later ≡ entries_of ys ++ more
         → length xs ≡ length ys → text_of xs ≡ text_of ys }
-{}
-
-/// No event may be both served and refused for its form.
-#[tactic(auto, using(crate::proofs::Texts::served_in_form))]
-pub fn served_or_refused()
-    ensures { (account : List ℕ) (walk : Walk) (event : Scheduled) (entries : List Entry) (text : List ℕ)
-        → Happens account walk event entries text → IsOutOfFormEvent account walk event → ⊥ }
-{}
+{
+    one_decision();
+}

@@ -6,7 +6,7 @@ ghost use Rattle.tab_drive.specs.Walk.{reply_outcome};
 use itoa::Buffer;
 use std::alloc::Global;
 use tab_outside::{Failed, Sink, write_all};
-use tab_service::{ReplyBytes, memory_reply};
+use tab_service::ReplyBytes;
 
 /// What an event gives to be written.
 #[derive(Debug, Drop)]
@@ -15,8 +15,8 @@ pub enum Outgoing {
     Done,
     /// The reply to a request.
     Reply(ReplyBytes),
-    /// The reply that no memory was found.
-    OutOfMemory,
+    /// A reply that is the same each time it is given.
+    Fixed(&'static [u8]),
 }
 
 /// Writes what an event gives, and takes no memory for it.
@@ -28,7 +28,7 @@ pub fn write_outgoing<K: Sink>(sink: &mut K, outgoing: &Outgoing) -> Result<(), 
     match outgoing {
         Outgoing::Done => write_pieces(sink, &[b"ok\n".as_slice()]),
         Outgoing::Reply(reply) => write_reply(sink, reply.as_slice()),
-        Outgoing::OutOfMemory => write_reply(sink, memory_reply()),
+        Outgoing::Fixed(reply) => write_reply(sink, reply),
     }
 }
 

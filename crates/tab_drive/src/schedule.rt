@@ -30,6 +30,13 @@ impl RawMessage {
     {
         self.bytes.as_slice()
     }
+
+    /// The bytes themselves. It takes no memory.
+    pub fn into_vec(self) -> Vec<u8>
+        ensures { result.items ≡ self }
+    {
+        self.bytes
+    }
 }
 
 /// One event of a schedule.

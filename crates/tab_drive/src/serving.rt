@@ -7,8 +7,9 @@ ghost use Rattle.tab_drive.specs.Runs.{Turned, StopsTurn, Stops};
 
 use crate::outgoing::write_outgoing;
 use crate::reading::{NextEvent, Unread, next_event};
-use crate::session::{Session, StepRefused};
+use crate::session::Session;
 use std::alloc::Global;
+use tab_auth::Keys;
 use tab_history::Entry;
 use tab_keys::Memory;
 use tab_outside::{Sink, Source};
@@ -31,14 +32,14 @@ pub enum Stop {
 /// Reads the next event, takes it, and writes what it gives.
 pub fn turn<S: Source, K: Sink>(
     alloc: Global,
-    account: &str,
+    keys: &Keys,
     session: &mut Session,
     input: &mut S,
     output: &mut K,
 ) -> Option<Stop>
-    ensures turned { (walk : Walk) → Keeps session.old walk → IfNone result (Turned account.now walk
+    ensures turned { (walk : Walk) → Keeps session.old walk → IfNone result (Turned keys.now walk
         (record { left_before = S.left input.old; left = S.left input.new; taken_before = K.taken output.old; taken = K.taken output.new }) session.old session.new) }
-    ensures stopped { (walk : Walk) → Keeps session.old walk → IfSome result (StopsTurn account.now walk
+    ensures stopped { (walk : Walk) → Keeps session.old walk → IfSome result (StopsTurn keys.now walk
         (record { left_before = S.left input.old; left = S.left input.new; taken_before = K.taken output.old; taken = K.taken output.new }) session.old session.new) }
     ensures numbered { session.old.number < 2 ^ 64 }
     ensures read_fault { result ≡ Some Stop.ReadFault → Rose (S.faults input.old) (S.faults input.new) }
@@ -57,10 +58,9 @@ pub fn turn<S: Source, K: Sink>(
     if number == u64::MAX {
         return Some(Stop::Refused);
     }
-    let outgoing = match session.step(alloc, account, event) {
+    let outgoing = match session.step(alloc, keys, event) {
         Ok(outgoing) => outgoing,
-        Err(StepRefused::OutOfForm) => return Some(Stop::Refused),
-        Err(StepRefused::Memory) => return Some(Stop::Memory),
+        Err(_) => return Some(Stop::Memory),
     };
     match write_outgoing(output, &outgoing) {
         Ok(()) => None,
@@ -79,12 +79,12 @@ pub struct Served {
 /// Opens a store and reads a schedule to its end, or up to what stops it.
 pub fn serve<S: Source, K: Sink>(
     alloc: Global,
-    account: &str,
+    keys: &Keys,
     moment: u64,
     input: &mut S,
     output: &mut K,
 ) -> Result<Served, Memory>
-    ensures stops { IfOk result (λ served. Stops account.now moment
+    ensures stops { IfOk result (λ served. Stops keys.now moment
         (record { left_before = S.left input.old; left = S.left input.new; taken_before = K.taken output.old; taken = K.taken output.new }) served.history.items served.done served.stop) }
     ensures legal { IfOk result (λ served. Legal first_state served.history.items) }
     ensures read_fault { IfOk result (λ served. served.stop ≡ Stop.ReadFault → Rose (S.faults input.old) (S.faults input.new)) }
@@ -98,7 +98,7 @@ pub fn serve<S: Source, K: Sink>(
     let mut session = Session::open(alloc, moment)?;
     let mut done = 0;
     loop {
-        if let Some(stop) = turn(alloc, account, &mut session, input, output) {
+        if let Some(stop) = turn(alloc, keys, &mut session, input, output) {
             return Ok(Served {
                 stop,
                 done,

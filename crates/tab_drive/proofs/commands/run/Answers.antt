@@ -1,29 +1,36 @@
 use Rattle.std.proofs.Common.{refl, arith}
-use Rattle.tab_drive.proofs.FirstWorld.{gives_followed, gives_still, rises, tells_rows}
-use Rattle.tab_drive.proofs.Completeness.{completed, status_listed, servable_as}
+use Rattle.tab_drive.proofs.FirstWorld.{gives_followed, gives_still, rises, tells_rows, numbers, made, hides}
 use Rattle.tab_drive.proofs.commands.run.Goals as goal
 
-pub returns-in-Ok-clause-status : goal.returns-in-Ok-clause-status
-returns-in-Ok-clause-status g c = rw c.status_of.ensures (status_listed c.in-Ok.served.stop)
+pub returns-in-Ok-Some-clause-followed : goal.returns-in-Ok-Some-clause-followed
+returns-in-Ok-Some-clause-followed g c = gives_followed c.drive.result.history c.drive.ensures.legal
 
-pub returns-in-Err-clause-status : goal.returns-in-Err-clause-status
-returns-in-Err-clause-status g c = (5, omega arith, refl)
+pub returns-in-Ok-Some-clause-still : goal.returns-in-Ok-Some-clause-still
+returns-in-Ok-Some-clause-still g c = gives_still c.drive.result.history c.drive.ensures.legal
 
-pub returns-in-Ok-clause-complete : goal.returns-in-Ok-clause-complete
-returns-in-Ok-clause-complete g c account bytes words told servable sound kept =
-    rw c.status_of.ensures
-    (completed c.in-Some.account.now bytes c.now.result _ _ _ c.in-Ok.served.stop _ _ told
-    (servable_as _ account c.in-Some.account.now bytes _ c.now.result words c.in-Some.ensures c.now.ensures servable)
-    c.in-Ok.ensures.legal c.in-Ok.ensures.stops c.in-Ok.ensures.read_fault (λ is. let rose = c.in-Ok.ensures.write_fault is in omega (arith, rose, c.write_last_line.ensures.later)) sound kept)
+pub returns-in-Ok-Some-clause-ticks : goal.returns-in-Ok-Some-clause-ticks
+returns-in-Ok-Some-clause-ticks g c = rises c.drive.result.history c.drive.ensures.legal
 
-pub returns-in-Ok-clause-followed : goal.returns-in-Ok-clause-followed
-returns-in-Ok-clause-followed g c = gives_followed c.new-in-Ok.result (rw c.new-in-Ok.ensures c.in-Ok.ensures.legal)
+pub returns-in-Ok-Some-clause-versions : goal.returns-in-Ok-Some-clause-versions
+returns-in-Ok-Some-clause-versions g c = tells_rows c.drive.result.history c.drive.ensures.legal
 
-pub returns-in-Ok-clause-still : goal.returns-in-Ok-clause-still
-returns-in-Ok-clause-still g c = gives_still c.new-in-Ok.result (rw c.new-in-Ok.ensures c.in-Ok.ensures.legal)
+pub returns-in-Ok-Some-clause-numbers : goal.returns-in-Ok-Some-clause-numbers
+returns-in-Ok-Some-clause-numbers g c = numbers c.drive.result.history c.drive.ensures.legal
 
-pub returns-in-Ok-clause-ticks : goal.returns-in-Ok-clause-ticks
-returns-in-Ok-clause-ticks g c = rises c.new-in-Ok.result (rw c.new-in-Ok.ensures c.in-Ok.ensures.legal)
+pub returns-in-Ok-Some-clause-made : goal.returns-in-Ok-Some-clause-made
+returns-in-Ok-Some-clause-made g c = made c.drive.result.history c.drive.ensures.legal
 
-pub returns-in-Ok-clause-versions : goal.returns-in-Ok-clause-versions
-returns-in-Ok-clause-versions g c = tells_rows c.new-in-Ok.result (rw c.new-in-Ok.ensures c.in-Ok.ensures.legal)
+pub returns-in-Ok-Some-clause-dropped : goal.returns-in-Ok-Some-clause-dropped
+returns-in-Ok-Some-clause-dropped g c = hides c.drive.result.history c.drive.ensures.legal
+
+pub returns-in-Ok-Some-clause-complete : goal.returns-in-Ok-Some-clause-complete
+returns-in-Ok-Some-clause-complete g c keys bytes words told servable sound kept = c.drive.ensures.complete bytes told servable sound kept
+
+pub returns-in-Ok-None-clause-drives : goal.returns-in-Ok-None-clause-drives
+returns-in-Ok-None-clause-drives g c keys words = absurd ((rw c.in-Ok-None.field-0-is at c.in-Ok-None.ensures) keys words)
+
+pub returns-in-Ok-None-clause-status : goal.returns-in-Ok-None-clause-status
+returns-in-Ok-None-clause-status g c = rw c.said_only.ensures.status (1, omega arith, refl)
+
+pub returns-in-Ok-None-clause-complete : goal.returns-in-Ok-None-clause-complete
+returns-in-Ok-None-clause-complete g c keys bytes words told servable sound kept = absurd ((rw c.in-Ok-None.field-0-is at c.in-Ok-None.ensures) keys words)

@@ -5,7 +5,7 @@ use Rattle.tab_drive.proofs.serving.serve.Goals as goal
 
 pub loop-stop-init : goal.loop-stop-init
 loop-stop-init g c = record {
-  going = going_first c.args.account.now c.args.moment _ _ c.in_ok-session.session c.in_ok-session.ensures.keeps c.in_ok-session.ensures.history;
+  going = going_first c.args.keys.now c.args.moment _ _ c.in_ok-session.session c.in_ok-session.ensures.keeps c.in_ok-session.ensures.history;
   read_later = omega arith;
   write_later = omega arith;
 }
@@ -14,7 +14,7 @@ pub loop-stop-preserved : goal.loop-stop-preserved
 loop-stop-preserved g c =
     let going = c.loop-stop.invariant.going in
     record {
-      going = going_on c.args.account.now c.args.moment _ _ _ _ _ _ c.loop-stop.session c.turn.new.session c.loop-stop.done going
+      going = going_on c.args.keys.now c.args.moment _ _ _ _ _ _ c.loop-stop.session c.turn.new.session c.loop-stop.done going
           (c.in_default.ensures.turned (walk_after_all (first_walk c.args.moment) going.exchanges) going.keeps);
       read_later = omega (arith, c.loop-stop.invariant.read_later, c.turn.ensures.read_later);
       write_later = omega (arith, c.loop-stop.invariant.write_later, c.turn.ensures.write_later);
@@ -23,13 +23,13 @@ loop-stop-preserved g c =
 pub returns-in-Some-clause-stops : goal.returns-in-Some-clause-stops
 returns-in-Some-clause-stops g c =
     let going = c.loop-stop.invariant.going in
-    stopped c.args.account.now c.args.moment _ _ _ _ _ _ c.loop-stop.session c.turn.new.session c.loop-stop.done c.in-Some.stop going
+    stopped c.args.keys.now c.args.moment _ _ _ _ _ _ c.loop-stop.session c.turn.new.session c.loop-stop.done c.in-Some.stop going
     (c.in-Some.ensures.stopped (walk_after_all (first_walk c.args.moment) going.exchanges) going.keeps)
 
 pub returns-in-Some-clause-legal : goal.returns-in-Some-clause-legal
 returns-in-Some-clause-legal g c =
     let going = c.loop-stop.invariant.going in
-    stopped_legal c.args.account.now c.args.moment _ _ _ _ _ _ c.loop-stop.session c.turn.new.session c.loop-stop.done c.in-Some.stop going
+    stopped_legal c.args.keys.now c.args.moment _ _ _ _ _ _ c.loop-stop.session c.turn.new.session c.loop-stop.done c.in-Some.stop going
     (c.in-Some.ensures.stopped (walk_after_all (first_walk c.args.moment) going.exchanges) going.keeps)
 
 pub returns-in-Some-clause-numbered : goal.returns-in-Some-clause-numbered

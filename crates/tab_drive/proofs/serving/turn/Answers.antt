@@ -1,26 +1,26 @@
 use Rattle.std.proofs.Common.{◌<◌, ◌≤◌, refl, arith, inl, ap, Err}
 use Rattle.tab_drive.specs.Walk.{last_number}
 use Rattle.tab_drive.proofs.Told.{told_weaker}
-use Rattle.tab_drive.proofs.Turns.{turned, turned_short, stopped_number, cut_short, stopped_form}
+use Rattle.tab_drive.proofs.Turns.{turned, turned_short, stopped_number, cut_short}
 use Rattle.tab_drive.proofs.serving.turn.Goals as goal
 
 pub returns-then-number-clause-stopped : goal.returns-then-number-clause-stopped
 returns-then-number-clause-stopped g c walk keeps =
     let read = rw c.in-Ok-Event.field-0-is at c.in-Ok-Event.ensures.read in
     let spent : last_number ≤ walk.number = omega (arith, keeps.number, c.if-number.true) in
-    stopped_number c.args.account.now walk _ c.in-Ok-Event.event c.args.session.now read.0 spent read.1 refl
+    stopped_number walk _ c.in-Ok-Event.event c.args.session.now read.0 spent read.1 refl
 
 pub returns-in-Ok-write_outgoing-clause-turned : goal.returns-in-Ok-write_outgoing-clause-turned
 returns-in-Ok-write_outgoing-clause-turned g c walk keeps =
     let read = rw c.in-Ok-Event.field-0-is at c.in-Ok-Event.ensures.read in
     let numbered : walk.number < last_number = omega (arith, keeps.number) in
-    turned c.args.account.now walk _ c.in-Ok-Event.event _ c.args.session.now c.step.new.self read.0 numbered (c.in-Ok.ensures.ok walk keeps) read.1 c.in-Ok-write_outgoing.ensures.written
+    turned c.args.keys.now walk _ c.in-Ok-Event.event _ c.args.session.now c.step.new.self read.0 numbered (c.in-Ok.ensures.ok walk keeps) read.1 c.in-Ok-write_outgoing.ensures.written
 
 pub returns-clause-stopped : goal.returns-clause-stopped
 returns-clause-stopped g c walk keeps =
     let read = rw c.in-Ok-Event.field-0-is at c.in-Ok-Event.ensures.read in
     let numbered : walk.number < last_number = omega (arith, keeps.number) in
-    turned_short c.args.account.now walk _ c.in-Ok-Event.event _ c.args.session.now c.step.new.self read.0 numbered (c.in-Ok.ensures.ok walk keeps) read.1 c.in-Err.ensures.written
+    turned_short c.args.keys.now walk _ c.in-Ok-Event.event _ c.args.session.now c.step.new.self read.0 numbered (c.in-Ok.ensures.ok walk keeps) read.1 c.in-Err-write_outgoing.ensures.written
 
 pub returns-in-Err-NoEvent-clause-stopped : goal.returns-in-Err-NoEvent-clause-stopped
 returns-in-Err-NoEvent-clause-stopped g c walk keeps =
@@ -28,9 +28,3 @@ returns-in-Err-NoEvent-clause-stopped g c walk keeps =
 
 pub returns-in-Err-Memory-clause-stopped : goal.returns-in-Err-Memory-clause-stopped
 returns-in-Err-Memory-clause-stopped g c walk keeps = cut_short _ c.args.session.now c.args.session.now c.in-Err-Memory.ensures.part refl refl
-
-pub returns-in-Err-OutOfForm-clause-stopped : goal.returns-in-Err-OutOfForm-clause-stopped
-returns-in-Err-OutOfForm-clause-stopped g c walk keeps =
-    let read = rw c.in-Ok-Event.field-0-is at c.in-Ok-Event.ensures.read in
-    stopped_form c.args.account.now walk _ c.in-Ok-Event.event c.args.session.now c.step.new.self read.0
-    (c.in-Err-OutOfForm.ensures.refused walk keeps (ap Err c.in-Err-OutOfForm.field-0-is)) read.1 refl c.in-Err-OutOfForm.ensures.err.history

@@ -1,20 +1,32 @@
-use Rattle.tab_drive.proofs.ServedAsks.{served_ask}
-use Rattle.tab_drive.proofs.SessionSteps.{replied_steps, refused_steps, same_message}
+use Rattle.std.proofs.Common.{sym, ap, subst}
+use Rattle.tab_service.specs.Decisions.{IsDecision}
+use Rattle.tab_service.specs.declared.decisions.Decided.{Decided}
+use Rattle.tab_service.proofs.RequestLaws.{requests_are_in_form}
+use Rattle.tab_drive.specs.Outgoing.{outgoing_text}
+use Rattle.tab_drive.proofs.Exits.{ok_weaker}
+use Rattle.tab_drive.proofs.SessionSteps.{own_form, comes_to, refused_comes, replied_steps, refused_steps}
 use Rattle.tab_drive.proofs.session.Session.call.Goals as goal
 
-pub answer-requires-clause-served : goal.answer-requires-clause-served
-answer-requires-clause-served c =
-    served_ask c.args.account.now c.args.message.now c.in-Ok-Some-Go.request
-    (same_message _ _ _ _ c.as_slice.ensures (rw (c.in-Ok-Some-Go.field-0-is, c.in-Ok-Some-Go.field-0-0-is) at c.in-Ok-Some-Go.ensures))
+pub answer-requires-clause-in_form : goal.answer-requires-clause-in_form
+answer-requires-clause-in_form c =
+    own_form c.args.keys.now.account c.in-Go.request
+    (requests_are_in_form c.args.keys.now c.args.self.now.moment c.in-Ok.message c.in-Go.request
+    (subst (λ (d : Decided). IsDecision c.args.keys.now c.args.self.now.moment c.in-Ok.message d) c.in-Go.is c.in_ok-request-in-Ok.ensures))
 
-pub returns-in-Ok-Some-No-clause-ok : goal.returns-in-Ok-Some-No-clause-ok
-returns-in-Ok-Some-No-clause-ok c walk keeps =
-    refused_steps c.args.account.now c.args.message.now _ _ walk c.args.self.now c.refuse.new.self keeps
-    (same_message _ _ _ _ c.as_slice.ensures (rw (c.in-Ok-Some-No.field-0-is, c.in-Ok-Some-No.field-0-0-is) at c.in-Ok-Some-No.ensures))
-    c.refuse.ensures.text c.refuse.ensures.kept
+pub returns-in-Go-clause-ok : goal.returns-in-Go-clause-ok
+returns-in-Go-clause-ok c walk keeps =
+    ok_weaker c.answer.result _ _ c.answer.ensures.ok
+    (λ outgoing replied. replied_steps c.args.keys.now c.args.message walk c.args.self.now c.answer.new.self c.in-Go.request (outgoing_text outgoing) keeps
+    (comes_to c.args.keys.now c.args.self.now.moment walk.moment c.args.message c.in-Ok.message _ _ keeps.moment c.in-Ok.ensures.read c.in_ok-request-in-Ok.ensures c.in-Go.is) replied)
 
 pub returns-in-Ok-clause-ok : goal.returns-in-Ok-clause-ok
 returns-in-Ok-clause-ok c walk keeps =
-    let reads = same_message _ _ _ _ c.as_slice.ensures (rw (c.in-Ok-Some-Go.field-0-is, c.in-Ok-Some-Go.field-0-0-is) at c.in-Ok-Some-Go.ensures) in
-    replied_steps c.args.account.now c.args.message.now walk c.args.self.now c.answer.new.self c.in-Ok-Some-Go.request _ keeps reads
-    (served_ask c.args.account.now c.args.message.now c.in-Ok-Some-Go.request reads) c.in-Ok.ensures.ok
+    refused_steps c.args.keys.now c.args.message _ _ walk c.args.self.now c.refuse.new.self keeps
+    (comes_to c.args.keys.now c.args.self.now.moment walk.moment c.args.message c.in-Ok.message _ _ keeps.moment c.in-Ok.ensures.read c.in_ok-request-in-Ok.ensures c.in-No.is)
+    (ap outgoing_text c.refuse.ensures.text) c.refuse.ensures.kept
+
+pub returns-in-Some-clause-ok : goal.returns-in-Some-clause-ok
+returns-in-Some-clause-ok c walk keeps =
+    refused_steps c.args.keys.now c.args.message _ _ walk c.args.self.now c.refuse-in-Some.new.self keeps
+    (refused_comes c.args.keys.now walk.moment c.args.message c.in-Err.refused c.in-Some.reply.now c.in-Err.ensures.refused (sym c.in-Some.ensures))
+    (ap outgoing_text c.refuse-in-Some.ensures.text) c.refuse-in-Some.ensures.kept

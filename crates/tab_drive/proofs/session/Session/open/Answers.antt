@@ -8,7 +8,6 @@ unfolding first_walk
 returns-clause-keeps c = record {
   moment = refl;
   number = refl;
-  next_tick = refl;
-  rows = c.new-2.ensures;
+  held = c.in_ok-new.ensures;
   serving = first_serving c.args.moment;
 }

@@ -1,0 +1,166 @@
+ghost use Rattle.std.specs.Prelude.{◌≡◌, ◌≤◌, [], None, OnOk, IfOk, MatchOption, take, slice_get};
+ghost use Rattle.std.specs.Ordering.{is_lt};
+ghost use Rattle.tab_keys.specs.Order.{name_cmp};
+ghost use Rattle.tab_history.specs.World.{table_of, with_name, without_name, names_from};
+ghost use Rattle.tab_drive.specs.Tables.{AreInOrder, spellings, StandsAt, BeginsAt};
+
+use std::alloc::Global;
+use std::cmp::Ordering;
+use std::marker::Model;
+use tab_history::TableNames;
+use tab_keys::{Memory, TableName};
+
+/// A table: its name as it was spelled, and its number.
+#[derive(Debug, Drop)]
+pub struct Table {
+    name: TableName,
+    number: u64,
+}
+
+impl Model for Table {
+    ghost use Rattle.tab_history.specs.World.{Named};
+
+    ghost Value = { Named };
+
+    ghost view = { λ one. record { spelling = one.name; table = one.number } };
+}
+
+/// Tables in the order of their names without case, with room for more.
+#[derive(Debug, Drop)]
+pub struct Tables {
+    tables: Vec<Table>,
+}
+
+impl Model for Tables {
+    ghost use Rattle.std.specs.Prelude.{◌-◌, vec_len, vec_capacity};
+    ghost use Rattle.tab_drive.specs.Tables.{TablesView, AreInOrder};
+
+    ghost Value = { TablesView };
+
+    ghost view = { λ all. record { names = all.tables.items; spare = vec_capacity all.tables - vec_len all.tables } };
+
+    ghost invariant = { λ all. AreInOrder all.tables.items };
+}
+
+impl Tables {
+    /// No tables.
+    pub fn new(alloc: Global) -> Tables
+        ensures { result.names ≡ [] }
+    {
+        Tables {
+            tables: Vec::new(alloc),
+        }
+    }
+
+    /// The number of the table of that name, whatever its case.
+    pub fn find(&self, name: &TableName) -> Option<u64>
+        ensures { result ≡ table_of self.now.names name.now }
+    {
+        let place = find_place(self.tables.as_slice(), name)?;
+        Some(self.tables[place].number)
+    }
+
+    /// Finds memory for one more table.
+    pub fn reserve_one(&mut self) -> Result<(), Memory>
+        ensures names { self.new.names ≡ self.old.names }
+        ensures room { OnOk result (1 ≤ self.new.spare) }
+    {
+        self.tables.reserve(1).map_err(|_| Memory)
+    }
+
+    /// Adds a table of a name that none has, for which there is room.
+    pub fn put(&mut self, name: TableName, number: u64)
+        requires room { 1 ≤ self.old.spare }
+        requires absent { table_of self.old.names name ≡ None }
+        ensures { self.new.names ≡ with_name self.old.names (record { spelling = name; table = number }) }
+    {
+        let place = count_below(self.tables.as_slice(), &name);
+        let _ = self.tables.insert(place, Table { name, number });
+    }
+
+    /// Takes the table of that name away, whatever its case, if there is one.
+    pub fn take(&mut self, name: &TableName)
+        ensures { self.new.names ≡ without_name self.old.names name.now }
+    {
+        if let Some(place) = find_place(self.tables.as_slice(), name) {
+            let _ = self.tables.remove(place);
+        }
+    }
+
+    /// The first `top` names from one on, or from the first, and the one behind them. No other name is copied or
+    /// walked over.
+    pub fn list(
+        &self,
+        alloc: Global,
+        after: &Option<TableName>,
+        top: u16,
+    ) -> Result<(TableNames, Option<TableName>), Memory>
+        ensures names { IfOk result (λ listed. listed.0 ≡ take top (names_from self.now.names after.now)) }
+        ensures next { IfOk result (λ listed. listed.1 ≡ slice_get (names_from self.now.names after.now) top) }
+    {
+        let rest = tables_from(self.tables.as_slice(), after);
+        let first = &rest[..usize::from(top).min(rest.len())];
+        let names = names_of(alloc, first)?;
+        let next = name_at(alloc, rest, top)?;
+        Ok((names, next))
+    }
+}
+
+// Where the table of that name stands among tables in order.
+fn find_place(tables: &[Table], name: &TableName) -> Option<usize>
+    requires { AreInOrder tables.now }
+    ensures { MatchOption result (table_of tables.now name.now ≡ None) (StandsAt tables.now name.now) }
+{
+    let found = tables.binary_search_by(
+        |table: &Table| -> Ordering
+            ensures { result ≡ name_cmp table.now.spelling name.entry.now }
+        { table.name.cmp(name) },
+    );
+    found.ok()
+}
+
+// How many of the tables in order have a name below this one.
+fn count_below(tables: &[Table], name: &TableName) -> usize
+    requires { AreInOrder tables.now }
+    ensures { BeginsAt tables.now name.now result }
+{
+    tables.partition_point(
+        |table: &Table| -> bool
+            ensures { result ≡ is_lt (name_cmp table.now.spelling name.entry.now) }
+        { table.name < *name },
+    )
+}
+
+// The tables from a name on, or all of them.
+fn tables_from<'a>(tables: &'a [Table], after: &Option<TableName>) -> &'a [Table]
+    requires { AreInOrder tables.now }
+    ensures { spellings result.now ≡ names_from tables.now after.now }
+{
+    match after {
+        None => tables,
+        Some(after) => &tables[count_below(tables, after)..],
+    }
+}
+
+// Copies of the names of the tables.
+fn names_of(alloc: Global, tables: &[Table]) -> Result<TableNames, Memory>
+    ensures { IfOk result (λ names. names ≡ spellings tables.now) }
+{
+    let mut names = Vec::new(alloc);
+    for table in tables {
+        if names.push(table.name.try_copy(alloc)?).is_err() {
+            return Err(Memory);
+        }
+    }
+    Ok(TableNames::new(names))
+}
+
+// A copy of the name of the table at this place, where there is one.
+fn name_at(alloc: Global, tables: &[Table], place: u16) -> Result<Option<TableName>, Memory>
+    ensures { IfOk result (λ name. name ≡ slice_get (spellings tables.now) place) }
+{
+    match tables.get(usize::from(place)) {
+        Some(table) => Ok(Some(table.name.try_copy(alloc)?)),
+        None => Ok(None),
+    }
+}
