@@ -1,39 +1,7 @@
 // Worked conversations, message by message. The replies were put together from the formats of the protocol, not by this
 // program.
-use super::{joined, words_of};
-use crate::run;
-use std::alloc::{AllocError, Global};
-use std::process::Abort;
-use std::str;
+use super::scripts::{Exchange, converse};
 use std::test::Fail;
-use tab_outside::{MemDisk, MemSink, MemSource, SetClock};
-
-/// A message, and its reply.
-pub type Exchange = (&'static str, &'static str);
-
-/// A schedule's bytes, and what is to be written for it.
-#[derive(Drop)]
-struct Script {
-    input: Vec<u8>,
-    output: Vec<u8>,
-}
-
-fn push_call(
-    script: &mut Script,
-    alloc: Global,
-    message: &str,
-    reply: &str,
-) -> Result<(), AllocError> {
-    let call = format!(in alloc; "call {}\n", message.len())?;
-    script.input.extend_from_slice(call.as_bytes())?;
-    script.input.extend_from_slice(message.as_bytes())?;
-    script.input.extend_from_slice(b"\n")?;
-    let line = format!(in alloc; "reply {}\n", reply.len())?;
-    script.output.extend_from_slice(line.as_bytes())?;
-    script.output.extend_from_slice(reply.as_bytes())?;
-    script.output.extend_from_slice(b"\n")?;
-    Ok(())
-}
 
 /// An insert may be answered without a body.
 const AN_INSERT_MAY_BE_ANSWERED_WITHOUT_A_BODY: [Exchange; 3] = [
@@ -179,64 +147,23 @@ const REQUESTS_ARE_REFUSED_IN_ORDER: [Exchange; 13] = [
     ),
 ];
 
-pub fn converse(
-    rt: &impl Abort,
-    alloc: Global,
-    now: &str,
-    exchanges: &[Exchange],
-) -> Result<(), Fail> {
-    let mut script = Script {
-        input: joined(alloc, &[now, "\n"])?,
-        output: joined(alloc, &["ok\n"])?,
-    };
-    for (message, reply) in exchanges {
-        push_call(&mut script, alloc, message, reply)?;
-    }
-    script.input.extend_from_slice(b"end\n")?;
-    let words = words_of(alloc, &["drive", "shop", "-"])?;
-    let Script { input, output } = script;
-    let mut source = MemSource::new(input, Vec::new(alloc));
-    let mut sink = MemSink::new(alloc, Vec::new(alloc));
-    let mut yard: Vec<MemDisk> = Vec::new(alloc);
-    let mut clock = SetClock::new(0);
-    let ended = run(
-        alloc,
-        words.as_slice(),
-        &mut source,
-        &mut sink,
-        &mut yard,
-        &mut clock,
-    );
-    assert_eq!(rt;
-        str::from_utf8(sink.bytes()).unwrap_or(""),
-        str::from_utf8(output.as_slice()).unwrap_or("")
-    );
-    assert_eq!(rt; ended.status, 0);
-    Ok(())
-}
-
 #[test]
 fn conversations_go_as_written(rt: HostRuntime) -> Result<(), Fail> {
     let alloc = rt.alloc();
     converse(
         &rt,
         alloc,
-        "now 130216075262608595",
+        130_216_075_262_608_595,
         &AN_INSERT_MAY_BE_ANSWERED_WITHOUT_A_BODY,
     )?;
+    converse(&rt, alloc, 0, &A_NUMBER_OF_64_BITS_GOES_IN_AND_COMES_BACK)?;
+    converse(&rt, alloc, 5, &ALL_TYPES_GO_IN_AND_COME_BACK)?;
     converse(
         &rt,
         alloc,
-        "now 0",
-        &A_NUMBER_OF_64_BITS_GOES_IN_AND_COMES_BACK,
-    )?;
-    converse(&rt, alloc, "now 5", &ALL_TYPES_GO_IN_AND_COME_BACK)?;
-    converse(
-        &rt,
-        alloc,
-        "now 0",
+        0,
         &KEYS_ARE_ORDERED_BY_THEIR_UNITS_AND_QUOTES_ARE_DOUBLED,
     )?;
-    converse(&rt, alloc, "now 0", &REQUESTS_ARE_REFUSED_IN_ORDER)?;
+    converse(&rt, alloc, 0, &REQUESTS_ARE_REFUSED_IN_ORDER)?;
     Ok(())
 }

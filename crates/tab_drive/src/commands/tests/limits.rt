@@ -1,11 +1,10 @@
 // The limits of keys, names, values, entities and pages, each taken and passed by one.
-use super::{joined, words_of};
-use crate::run;
+use super::joined;
+use super::scripts::{MAKE_GOODS, OPEN, drive, push_call};
 use std::alloc::{AllocError, Global};
 use std::process::Abort;
 use std::str;
 use std::test::Fail;
-use tab_outside::{MemDisk, MemSink, MemSource, SetClock};
 
 /// So many properties, each a text of this length under a name of its own, and keys of these lengths.
 #[derive(Clone, Copy, Debug)]
@@ -41,27 +40,18 @@ fn body_of(alloc: Global, sizes: Sizes) -> Result<String, AllocError> {
     Ok(body)
 }
 
+/// What a run writes for an insert into a new table.
 fn answer(alloc: Global, sizes: Sizes) -> Result<Vec<u8>, AllocError> {
     let body = body_of(alloc, sizes)?;
     let message = format!(in alloc;
         "POST /shop/Goods HTTP/1.1\r\nPrefer: return-no-content\r\nContent-Length: {}\r\n\r\n{body}",
         body.len()
     )?;
-    let input = format!(in alloc; "call {}\n{message}\nend\n", message.len())?;
-    let words = words_of(alloc, &["drive", "shop", "-"])?;
-    let mut source = MemSource::new(input.into_bytes(), Vec::new(alloc));
-    let mut sink = MemSink::new(alloc, Vec::new(alloc));
-    let mut yard: Vec<MemDisk> = Vec::new(alloc);
-    let mut clock = SetClock::new(0);
-    let _ended = run(
-        alloc,
-        words.as_slice(),
-        &mut source,
-        &mut sink,
-        &mut yard,
-        &mut clock,
-    );
-    joined(alloc, &[str::from_utf8(sink.bytes()).unwrap_or("")])
+    let mut input = Vec::new(alloc);
+    push_call(&mut input, alloc, MAKE_GOODS.0.as_bytes())?;
+    push_call(&mut input, alloc, message.as_bytes())?;
+    input.extend_from_slice(b"end\n")?;
+    Ok(drive(alloc, &OPEN, input)?.output)
 }
 
 fn says(rt: &impl Abort, alloc: Global, sizes: Sizes, word: &str) -> Result<(), Fail> {
@@ -140,43 +130,41 @@ fn limits_are_taken_and_no_more(rt: HostRuntime) -> Result<(), Fail> {
 }
 
 /// A schedule that inserts so many rows, whose keys rise, and then asks these queries.
-fn schedule(alloc: Global, rows: usize, queries: &[&str]) -> Result<String, AllocError> {
-    let mut input = String::new(alloc);
+fn schedule(alloc: Global, rows: usize, queries: &[&str]) -> Result<Vec<u8>, AllocError> {
+    let mut input = Vec::new(alloc);
+    push_call(&mut input, alloc, MAKE_GOODS.0.as_bytes())?;
     for index in 0..rows {
         let body = format!(in alloc; "{{\"PartitionKey\":\"p\",\"RowKey\":\"{index:05}\"}}")?;
         let message = format!(in alloc;
             "POST /shop/Goods HTTP/1.1\r\nPrefer: return-no-content\r\nContent-Length: {}\r\n\r\n{body}",
             body.len()
         )?;
-        write!(&mut input, "call {}\n{message}\n", message.len())?;
+        push_call(&mut input, alloc, message.as_bytes())?;
     }
-    for query in queries {
-        let message = format!(in alloc;
-            "GET /shop/Goods(){query} HTTP/1.1\r\nAccept: odata=nometadata\r\n\r\n"
-        )?;
-        write!(&mut input, "call {}\n{message}\n", message.len())?;
-    }
-    input.push_str("end\n")?;
+    push_queries(&mut input, alloc, "Goods()", queries)?;
+    input.extend_from_slice(b"end\n")?;
     Ok(input)
 }
 
-/// What a run writes behind the replies to its inserts.
-fn pages(alloc: Global, rows: usize, queries: &[&str]) -> Result<Vec<u8>, AllocError> {
-    let input = schedule(alloc, rows, queries)?;
-    let words = words_of(alloc, &["drive", "shop", "-"])?;
-    let mut source = MemSource::new(input.into_bytes(), Vec::new(alloc));
-    let mut sink = MemSink::new(alloc, Vec::new(alloc));
-    let mut yard: Vec<MemDisk> = Vec::new(alloc);
-    let mut clock = SetClock::new(0);
-    let _ended = run(
-        alloc,
-        words.as_slice(),
-        &mut source,
-        &mut sink,
-        &mut yard,
-        &mut clock,
-    );
-    let text = str::from_utf8(sink.bytes()).unwrap_or("");
+fn push_queries(
+    input: &mut Vec<u8>,
+    alloc: Global,
+    resource: &str,
+    queries: &[&str],
+) -> Result<(), AllocError> {
+    for query in queries {
+        let message = format!(in alloc;
+            "GET /shop/{resource}{query} HTTP/1.1\r\nAccept: odata=nometadata\r\n\r\n"
+        )?;
+        push_call(input, alloc, message.as_bytes())?;
+    }
+    Ok(())
+}
+
+/// What a run writes behind the replies to its writes.
+fn pages(alloc: Global, input: Vec<u8>) -> Result<Vec<u8>, AllocError> {
+    let driven = drive(alloc, &OPEN, input)?;
+    let text = str::from_utf8(driven.output.as_slice()).unwrap_or("");
     match text.find("HTTP/1.1 200 OK") {
         Some(at) => joined(alloc, &[&text[at..]]),
         None => Ok(Vec::new(alloc)),
@@ -192,7 +180,7 @@ fn holds(
     held: usize,
     continued: usize,
 ) -> Result<(), Fail> {
-    let bytes = pages(alloc, rows, queries)?;
+    let bytes = pages(alloc, schedule(alloc, rows, queries)?)?;
     let text = str::from_utf8(bytes.as_slice()).unwrap_or("");
     assert_eq!(rt; text.matches("Timestamp").count(), held, "{queries:?}");
     assert_eq!(rt;
@@ -220,4 +208,57 @@ fn pages_end_at_their_limits(rt: HostRuntime) -> Result<(), Fail> {
     let last = "?$filter=A%20eq%201&NextPartitionKey=1.cA&NextRowKey=1.MTAwMDA";
     holds(&rt, alloc, 10_001, &[none], 0, 1)?;
     holds(&rt, alloc, 10_001, &[last], 0, 0)
+}
+
+/// A schedule that makes so many tables, whose names fall, and then lists them.
+fn tables(alloc: Global, count: usize, queries: &[&str]) -> Result<Vec<u8>, AllocError> {
+    let mut input = Vec::new(alloc);
+    for index in (0..count).rev() {
+        let message = format!(in alloc;
+            "POST /shop/Tables HTTP/1.1\r\nPrefer: return-no-content\r\nContent-Length: 21\r\n\r\n{{\"TableName\":\"T{index:04}\"}}"
+        )?;
+        push_call(&mut input, alloc, message.as_bytes())?;
+    }
+    push_queries(&mut input, alloc, "Tables", queries)?;
+    input.extend_from_slice(b"end\n")?;
+    Ok(input)
+}
+
+/// The pages hold so many tables together, and so many of them have a next one.
+fn lists(
+    rt: &impl Abort,
+    alloc: Global,
+    count: usize,
+    queries: &[&str],
+    held: usize,
+    continued: usize,
+) -> Result<(), Fail> {
+    let bytes = pages(alloc, tables(alloc, count, queries)?)?;
+    let text = str::from_utf8(bytes.as_slice()).unwrap_or("");
+    assert_eq!(rt;
+        text.matches("{\"TableName\":\"T").count(),
+        held,
+        "{queries:?}"
+    );
+    assert_eq!(rt;
+        text.matches("NextTableName").count(),
+        continued,
+        "{queries:?}"
+    );
+    Ok(())
+}
+
+#[test]
+fn lists_of_tables_end_at_their_limit(rt: HostRuntime) -> Result<(), Fail> {
+    let alloc = rt.alloc();
+    lists(&rt, alloc, 1_000, &["", "?$top=1000"], 2_000, 0)?;
+    // The 1,001st name is named by the token.
+    lists(
+        &rt,
+        alloc,
+        1_001,
+        &["", "?NextTableName=1.VDEwMDA"],
+        1_001,
+        1,
+    )
 }

@@ -1,6 +1,6 @@
 // The six operations and their conditions, message by message.
 // The replies were put together from the formats of the protocol, not by this program.
-use super::conversations::{Exchange, converse};
+use super::scripts::{Exchange, converse};
 use std::test::Fail;
 
 /// Ticks rise over deletes, so an ETag never comes again.
@@ -318,15 +318,15 @@ const WRITES_ARE_REFUSED_IN_ORDER: [Exchange; 8] = [
 #[test]
 fn operations_go_as_written(rt: HostRuntime) -> Result<(), Fail> {
     let alloc = rt.alloc();
-    converse(&rt, alloc, "now 0", &AN_ETAG_NEVER_COMES_AGAIN)?;
-    converse(&rt, alloc, "now 0", &A_MERGE_KEEPS_WHAT_IS_NOT_GIVEN)?;
+    converse(&rt, alloc, 0, &AN_ETAG_NEVER_COMES_AGAIN)?;
+    converse(&rt, alloc, 0, &A_MERGE_KEEPS_WHAT_IS_NOT_GIVEN)?;
     converse(
         &rt,
         alloc,
-        "now 2650467743999999999",
+        2_650_467_743_999_999_999,
         &NO_CHANGE_COMES_AFTER_THE_LAST_MOMENT,
     )?;
-    converse(&rt, alloc, "now 7", &EACH_OPERATION_ON_EACH_CONDITION)?;
-    converse(&rt, alloc, "now 0", &WRITES_ARE_REFUSED_IN_ORDER)?;
+    converse(&rt, alloc, 7, &EACH_OPERATION_ON_EACH_CONDITION)?;
+    converse(&rt, alloc, 0, &WRITES_ARE_REFUSED_IN_ORDER)?;
     Ok(())
 }

@@ -1,6 +1,6 @@
 // Queries with options and their pages, message by message.
 // The replies were put together from the formats of the protocol, not by this program.
-use super::conversations::{Exchange, converse};
+use super::scripts::{Exchange, converse};
 use std::test::Fail;
 
 /// Filters say which rows match, and where they cannot be read.
@@ -234,8 +234,8 @@ const TOKENS_GO_ON_WHERE_A_PAGE_ENDED: [Exchange; 21] = [
 #[test]
 fn pages_go_as_written(rt: HostRuntime) -> Result<(), Fail> {
     let alloc = rt.alloc();
-    converse(&rt, alloc, "now 0", &FILTERS_SAY_WHICH_ROWS_MATCH)?;
-    converse(&rt, alloc, "now 0", &OPTIONS_ARE_READ_IN_ORDER)?;
-    converse(&rt, alloc, "now 0", &TOKENS_GO_ON_WHERE_A_PAGE_ENDED)?;
+    converse(&rt, alloc, 0, &FILTERS_SAY_WHICH_ROWS_MATCH)?;
+    converse(&rt, alloc, 0, &OPTIONS_ARE_READ_IN_ORDER)?;
+    converse(&rt, alloc, 0, &TOKENS_GO_ON_WHERE_A_PAGE_ENDED)?;
     Ok(())
 }
