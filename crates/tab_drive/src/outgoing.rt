@@ -3,6 +3,7 @@ ghost use Rattle.tab_outside.specs.Faults.{HasCause};
 ghost use Rattle.tab_drive.specs.Outgoing.{Wrote, outgoing_text};
 ghost use Rattle.tab_drive.specs.Walk.{reply_outcome};
 
+use arrayvec::ArrayString;
 use itoa::Buffer;
 use std::alloc::Global;
 use tab_outside::{Failed, Sink, write_all};
@@ -38,18 +39,12 @@ fn write_reply<K: Sink>(sink: &mut K, reply: &[u8]) -> Result<(), Failed>
     ensures cause { HasCause (K.faults sink.old) (K.faults sink.new) result }
     ensures beside { K.beside sink.new ≡ K.beside sink.old }
 {
-    let mut buffer = Buffer::new();
-    let length = buffer.format(reply.len()).as_bytes();
-    write_pieces(
-        sink,
-        &[
-            b"reply ".as_slice(),
-            length,
-            b"\n".as_slice(),
-            reply,
-            b"\n".as_slice(),
-        ],
-    )
+    let mut digits = Buffer::new();
+    let mut line = ArrayString::<48>::new();
+    line.push_str("reply ");
+    line.push_str(digits.format(reply.len()));
+    line.push_str("\n");
+    write_pieces(sink, &[line.as_str().as_bytes(), reply, b"\n".as_slice()])
 }
 
 /// Writes the pieces one after another.

@@ -1,10 +1,6 @@
 use crate::tests::{is_outcome, keys, message};
-use crate::{Decided, Request, decide, reply_bytes};
 use std::alloc::{AllocError, Global};
-use std::str;
 use std::test::Fail;
-use tab_history::{Denied, Reply};
-use tab_ops::OpRefused;
 
 const TYPE: (&str, &str) = ("Content-Type", "multipart/mixed; boundary=b");
 
@@ -60,45 +56,6 @@ fn the_first_fault_of_a_batch_is_answered(rt: HostRuntime) -> Result<(), Fail> {
         assert!(rt; is_outcome(rt.alloc(), &message, &keys, 0, want), "{want}");
     }
     Ok(())
-}
-
-#[test]
-fn a_batch_is_answered_part_by_part(rt: HostRuntime) -> Result<(), Fail> {
-    let second =
-        "POST /shop/Goods HTTP/1.1\nPrefer: return-no-content\n\n{\"PartitionKey\":\"p\",\"RowKey\":\"s\"}";
-    let body = batch(rt.alloc(), &[INSERT, second])?;
-    for (reply, want) in [
-        (Reply::Changed(0), "HTTP/1.1 201 Created"),
-        (Reply::Changed(0), "Preference-Applied: return-no-content"),
-        (Reply::Denied(Denied::NoTable), "0:The table is not there."),
-        (
-            Reply::Denied(Denied::Op(OpRefused::AlreadyThere { index: 1 })),
-            "1:The entity is there already.",
-        ),
-    ] {
-        let request = request(rt.alloc(), body.as_str())?;
-        let Some(request) = request else {
-            assert!(rt; false, "the batch is refused");
-            return Ok(());
-        };
-        let Ok(bytes) = reply_bytes(rt.alloc(), &request, &reply) else {
-            assert!(rt; false, "no memory");
-            return Ok(());
-        };
-        let text = str::from_utf8(&bytes).unwrap_or("");
-        assert!(rt; text.starts_with("HTTP/1.1 202 Accepted\r\n"), "{want}");
-        assert!(rt; text.contains(want), "{want}");
-    }
-    Ok(())
-}
-
-fn request(alloc: Global, body: &str) -> Result<Option<Request>, AllocError> {
-    let keys = keys(alloc, None)?;
-    let message = message(alloc, "POST", "/shop/$batch", &[TYPE], body)?;
-    match decide(alloc, &message, &keys, 0) {
-        Ok(Decided::Go(request)) => Ok(Some(request)),
-        _ => Ok(None),
-    }
 }
 
 /// The body of a batch of these requests.

@@ -2,10 +2,10 @@
 // The replies were put together from the formats of the protocol, not by this program.
 mod bodies;
 mod entities;
-mod forms;
 mod groups;
 mod operations;
 mod parts;
 mod sessions;
+mod signed;
 mod sizes;
 mod wholes;
