@@ -3,3 +3,4 @@ pub mod TableNames
 pub mod Order
 pub mod Spans
 pub mod TotalOrders
+pub mod Results

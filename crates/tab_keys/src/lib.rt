@@ -15,8 +15,21 @@ pub use bounds::Bound;
 pub use key_texts::{KeyRefused, KeyText};
 pub use keys::Key;
 pub use spans::Span;
+use std::alloc::{AllocError, AllocFailed};
 pub use table_names::{NameRefused, TableName};
 
 /// A refusal by want of memory.
 #[derive(Clone, Copy, Debug, PartialEq, Eq)]
 pub struct Memory;
+
+impl From<AllocError> for Memory {
+    fn from(_error: AllocError) -> Memory {
+        Memory
+    }
+}
+
+impl<T: Drop> From<AllocFailed<T>> for Memory {
+    fn from(_error: AllocFailed<T>) -> Memory {
+        Memory
+    }
+}

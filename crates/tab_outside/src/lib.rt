@@ -17,6 +17,7 @@ pub use disks::{Disk, MemDisk};
 pub use pieces::{FillRefused, fill, read_byte, write_all};
 pub use sinks::{MemSink, Sink};
 pub use sources::{MemSource, Source};
+use std::alloc::{AllocError, AllocFailed};
 
 /// A call of something outside that failed. Its cause is told by the count of faults alone.
 #[derive(Clone, Copy, Debug, PartialEq, Eq)]
@@ -25,3 +26,15 @@ pub struct Failed;
 /// A refusal by want of memory.
 #[derive(Clone, Copy, Debug, PartialEq, Eq)]
 pub struct Memory;
+
+impl From<AllocError> for Memory {
+    fn from(_error: AllocError) -> Memory {
+        Memory
+    }
+}
+
+impl<T: Drop> From<AllocFailed<T>> for Memory {
+    fn from(_error: AllocFailed<T>) -> Memory {
+        Memory
+    }
+}
