@@ -5,8 +5,6 @@ mod checks;
 mod claims;
 mod digests;
 mod signatures;
-#[cfg(test)]
-mod tests;
 
 pub use checks::{AuthRefused, Signed, check};
 pub use digests::hmac;

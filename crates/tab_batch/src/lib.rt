@@ -12,8 +12,6 @@ mod replies;
 mod requests;
 mod sections;
 mod spans;
-#[cfg(test)]
-mod tests;
 
 pub use batches::read_batch;
 pub use boundaries::boundary_of;

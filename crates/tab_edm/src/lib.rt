@@ -3,8 +3,6 @@
 
 mod entities;
 mod moments;
-#[cfg(test)]
-mod tests;
 mod texts;
 mod values;
 

@@ -6,8 +6,6 @@ mod literals;
 mod parsing;
 mod parts;
 mod stops;
-#[cfg(test)]
-mod tests;
 mod trees;
 mod truth;
 mod window;

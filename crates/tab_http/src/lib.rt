@@ -12,8 +12,6 @@ mod messages;
 mod places;
 mod reading;
 mod refusals;
-#[cfg(test)]
-mod tests;
 mod texts;
 mod writing;
 

@@ -7,8 +7,6 @@ mod faults;
 mod meanings;
 mod members;
 mod tables;
-#[cfg(test)]
-mod tests;
 mod types;
 mod values;
 

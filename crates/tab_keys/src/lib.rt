@@ -7,8 +7,6 @@ mod key_texts;
 mod keys;
 mod spans;
 mod table_names;
-#[cfg(test)]
-mod tests;
 mod text_order;
 
 pub use bounds::Bound;

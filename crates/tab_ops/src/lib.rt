@@ -8,8 +8,6 @@ mod merges;
 mod ops;
 mod outcomes;
 mod plans;
-#[cfg(test)]
-mod tests;
 
 pub use groups::{Group, GroupRefused, OpRefused};
 pub use laws::{

@@ -9,8 +9,6 @@ mod listed_calls;
 mod pieces;
 mod sinks;
 mod sources;
-#[cfg(test)]
-mod tests;
 
 pub use clocks::{Clock, SetClock};
 pub use disks::{Disk, MemDisk};

@@ -6,7 +6,6 @@ pub mod WindowRuns
 pub mod WalkLaws
 pub mod RowRuns
 pub mod PrefixLaws
-pub mod TestSpans
 pub mod TopLaws
 pub mod RisingLists
 pub mod OnePageLaws

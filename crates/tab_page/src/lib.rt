@@ -7,8 +7,6 @@ mod pages;
 mod queries;
 mod rule;
 mod selects;
-#[cfg(test)]
-mod tests;
 mod tokens;
 
 pub use pages::{Options, Page, PageRows};

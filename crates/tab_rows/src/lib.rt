@@ -7,8 +7,6 @@ mod cursors;
 mod row_lists;
 mod row_values;
 mod step_counts;
-#[cfg(test)]
-mod tests;
 
 pub use changes::Change;
 pub use cursors::Cursor;

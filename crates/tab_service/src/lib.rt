@@ -17,10 +17,6 @@ mod table_queries;
 mod table_replies;
 mod tables;
 mod targets;
-#[cfg(test)]
-mod tests;
-#[cfg(test)]
-mod tests_batches;
 mod writes;
 
 pub use batches::Refused;

@@ -1,2 +1,0 @@
-mod bodies;
-mod texts;

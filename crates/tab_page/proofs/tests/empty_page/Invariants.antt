@@ -1,4 +1,0 @@
-use Rattle.tab_page.proofs.tests.empty_page.Given as goal
-
-abbrev pub ghosts-counted : goal.ghosts-counted
-ghosts-counted g a = record { name = a.blank.name; parts = a.blank.parts }
