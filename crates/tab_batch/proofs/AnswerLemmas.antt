@@ -6,7 +6,7 @@ use Rattle.httparse.proofs.GrammarLemmas.{request_unique}
 use Rattle.tab_http.specs.declared.messages.Message.{Message}
 use Rattle.tab_batch.specs.Parts.{requests_of}
 use Rattle.tab_batch.specs.Requests.{ending, target_of, addressed, IsRequest, IsNoRequest, AreRequests}
-use Rattle.tab_batch.specs.Refusals.{IsBatch, FirstBad, Answer, Gives}
+use Rattle.tab_batch.specs.Refusals.{IsBatch, FirstBad, Answer, IsBatchAnswer}
 use Rattle.tab_batch.specs.declared.refusals.BatchRefused.{BatchRefused}
 use Rattle.tab_batch.specs.declared.refusals.BatchRefused.TheVariants.{BadMultipart, BadPart, Memory}
 
@@ -81,7 +81,7 @@ read_or_bad : (r : Result (List (List ℕ)) ℕ) (ps qs : List (List ℕ)) (mess
 read_or_bad r ps qs messages i p q are bad =
     no_bad bad.front bad.part bad.more messages (subst (λ (xs : List (List ℕ)). AreRequests xs messages) (same_parts r ps qs p q ∙ bad.are) are) bad.bad
 
-same_refusal : (boundary bytes : List ℕ) (a b : BatchRefused) → Gives boundary bytes (Err a) → Gives boundary bytes (Err b) → a ≡ b
+same_refusal : (boundary bytes : List ℕ) (a b : BatchRefused) → IsBatchAnswer boundary bytes (Err a) → IsBatchAnswer boundary bytes (Err b) → a ≡ b
 same_refusal boundary bytes (BadMultipart i) (BadMultipart j) p q = ap BadMultipart (same_places (requests_of boundary bytes) i j p.1 q.1)
 same_refusal boundary bytes (BadMultipart i) (BadPart j) p q = absurd (either_way (requests_of boundary bytes) q.1.0 i q.1.1 p.1)
 same_refusal boundary bytes (BadPart i) (BadMultipart j) p q = absurd (either_way (requests_of boundary bytes) p.1.0 j p.1.1 q.1)
@@ -94,15 +94,15 @@ same_refusal boundary bytes Memory b p q = absurd p.0
 same_refusal boundary bytes (BadMultipart i) Memory p q = absurd q.0
 same_refusal boundary bytes (BadPart i) Memory p q = absurd q.0
 
-read_or_refused : (boundary bytes : List ℕ) (messages : List Message) (b : BatchRefused) → IsBatch boundary bytes messages → Gives boundary bytes (Err b) → ⊥
+read_or_refused : (boundary bytes : List ℕ) (messages : List Message) (b : BatchRefused) → IsBatch boundary bytes messages → IsBatchAnswer boundary bytes (Err b) → ⊥
 read_or_refused boundary bytes messages (BadMultipart i) p q = either_way (requests_of boundary bytes) p.parts i p.cut q.1
 read_or_refused boundary bytes messages (BadPart i) p q = read_or_bad (requests_of boundary bytes) p.parts q.1.0 messages i p.cut q.1.1 p.read q.1.2
 read_or_refused boundary bytes messages Memory p q = q.0
 
-pub one_answer : (boundary bytes : List ℕ) (a b : Answer) → Gives boundary bytes a → Gives boundary bytes b → a ≡ b
-one_answer boundary bytes (Ok ms) (Ok ns) p q =
+pub a_batch_has_one_answer : (boundary bytes : List ℕ) (a b : Answer) → IsBatchAnswer boundary bytes a → IsBatchAnswer boundary bytes b → a ≡ b
+a_batch_has_one_answer boundary bytes (Ok ms) (Ok ns) p q =
     let same = same_parts (requests_of boundary bytes) p.parts q.parts p.cut q.cut in
     ap Ok (same_requests q.parts ms ns (subst (λ (xs : List (List ℕ)). AreRequests xs ms) same p.read) q.read)
-one_answer boundary bytes (Ok ms) (Err b) p q = absurd (read_or_refused boundary bytes ms b p q)
-one_answer boundary bytes (Err a) (Ok ns) p q = absurd (read_or_refused boundary bytes ns a q p)
-one_answer boundary bytes (Err a) (Err b) p q = ap Err (same_refusal boundary bytes a b p q)
+a_batch_has_one_answer boundary bytes (Ok ms) (Err b) p q = absurd (read_or_refused boundary bytes ms b p q)
+a_batch_has_one_answer boundary bytes (Err a) (Ok ns) p q = absurd (read_or_refused boundary bytes ns a q p)
+a_batch_has_one_answer boundary bytes (Err a) (Err b) p q = ap Err (same_refusal boundary bytes a b p q)

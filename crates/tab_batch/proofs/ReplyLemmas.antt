@@ -4,14 +4,14 @@ use Rattle.std.specs.Prelude.{None, Some, Ok, Option, codes, slice_range, is_som
 use Rattle.std.specs.List.{flat_map, AllByRecursion}
 use Rattle.std.proofs.Math.Seq.{take-append_seam, drop-append_seam}
 use Rattle.std.proofs.lemmas.List.{reverse-append, reverse-reverse}
-use Rattle.tab_batch.specs.Lines.{Line, cons_first, cut_lines, without_end, placed, lines_at, text_end}
+use Rattle.tab_batch.specs.Lines.{LineView, cons_first, cut_lines, without_end, placed, lines_at, text_end}
 use Rattle.tab_batch.specs.Marks.{Blocks, blocks_of, add_line, mark_of}
 use Rattle.tab_batch.specs.Boundaries.{boundary_of, boundary_among, pieces, unquoted}
-use Rattle.tab_batch.specs.Parts.{Found, from_first, is_nothing, is_empty, content_type, settles, under, only_part, change_set, with_request, requests_at, when_closed, body_at, spans_of, between, cut_out, requests_of}
+use Rattle.tab_batch.specs.Parts.{Found, from_first, is_nothing, is_empty, content_type, settles, under, only_part, change_set, with_request, requests_at, when_closed, body_at, ranges_of, between, cut_out, requests_of}
 use Rattle.tab_batch.specs.Replies.{line_end, line, outer_boundary, inner_boundary, opening, part_head, ending, part_text, batch_text, MarksNothing, IsPlain}
 use Rattle.tab_batch.proofs.PieceLemmas.{first_of_plain, only_plain}
 use Rattle.tab_batch.specs.declared.marks.Mark.{Mark}
-use Rattle.tab_batch.specs.declared.spans.Span.{Span}
+use Rattle.tab_batch.specs.declared.byte_ranges.ByteRange.{ByteRange}
 use Rattle.httparse.specs.Grammar.{trim_ows}
 use Rattle.tab_batch.specs.declared.marks.Mark.TheVariants.{Delimiter}
 
@@ -171,7 +171,7 @@ unmarked : (boundary : List ℕ) (at : ℕ) (xs ys : List (List ℕ)) → AllByR
     (record { front = placed at xs ++ (blocks_of boundary (placed (behind_lines at xs) ys)).front; marked = (blocks_of boundary (placed (behind_lines at xs) ys)).marked })
 unmarked boundary at [] ys none = refl
 unmarked boundary at (x ∷ xs) ys none =
-    let here : Line = record { start = at; text = without_end x; next = at + length x } in
+    let here : LineView = record { start = at; text = without_end x; next = at + length x } in
     ap (λ (m : Option Mark). add_line here m (blocks_of boundary (placed (at + length x) (xs ++ ys)))) none.0 ∙ ap (add_line here None) (unmarked boundary (at + length x) xs ys none.1)
 
 inner_none : (ls : List (List ℕ)) → AllByRecursion MarksNothing ls → AllByRecursion (Unmarked inner_boundary) ls
@@ -194,7 +194,7 @@ abbrev text_start : ℕ → ℕ
 text_start at = behind_lines at (delimiter_line ∷ type_line ∷ encoding_line ∷ line [] ∷ [])
 
 -- where the replies stand
-abbrev spans_at : ℕ → List (List ℕ) → List Span
+abbrev spans_at : ℕ → List (List ℕ) → List ByteRange
 spans_at at [] = []
 spans_at at (reply ∷ replies) = record { start = text_start at; end = text_start at + length reply } ∷ spans_at (behind_lines (text_start at) (cut_lines (line reply))) replies
 
@@ -220,7 +220,7 @@ set_found size at (reply ∷ replies) plain =
     let rest = inner_blocks (behind_lines start lines) (set_lines replies) in
     let blocks = unmarked inner_boundary start lines (set_lines replies) (inner_none lines plain.0) in
     let front : (inner_blocks start (lines ++ set_lines replies)).front ≡ placed start lines =
-    ap (λ (b : Blocks). b.front) blocks ∙ ap (λ (ls : List Line). placed start lines ++ ls) (set_front (behind_lines start lines) replies) ∙ append-nil (placed start lines) in
+    ap (λ (b : Blocks). b.front) blocks ∙ ap (λ (ls : List LineView). placed start lines ++ ls) (set_front (behind_lines start lines) replies) ∙ append-nil (placed start lines) in
     let found : requests_at size (inner_blocks start (lines ++ set_lines replies)).marked ≡ Ok (spans_at (behind_lines start lines) replies) =
     ap (λ (b : Blocks). requests_at size b.marked) blocks ∙ set_found size (behind_lines start lines) replies plain.1 in
     let end = ap (text_end start) front ∙ reply_end start start reply in
@@ -247,9 +247,9 @@ opened : (size : ℕ) (a b : List ℕ) (lines : List (List ℕ)) → mark_of out
     body_at size (outer_blocks 0 (a ∷ b ∷ line [] ∷ lines)).marked ≡ when_closed size t.marked (requests_at size (blocks_of inner_boundary t.front).marked)
 opened size a b lines begins plain settled bound =
     let t = outer_blocks (0 + length a + length b + length (line [])) lines in
-    let first : Line = record { start = 0; text = without_end a; next = 0 + length a } in
-    let second : Line = record { start = 0 + length a; text = without_end b; next = 0 + length a + length b } in
-    let third : Line = record { start = 0 + length a + length b; text = without_end (line []); next = 0 + length a + length b + length (line []) } in
+    let first : LineView = record { start = 0; text = without_end a; next = 0 + length a } in
+    let second : LineView = record { start = 0 + length a; text = without_end b; next = 0 + length a + length b } in
+    let third : LineView = record { start = 0 + length a + length b; text = without_end (line []); next = 0 + length a + length b + length (line []) } in
     let rest = outer_blocks (0 + length a + length b) (line [] ∷ lines) in
     let rest_is : rest ≡ add_line third None t = ap (λ (m : Option Mark). add_line third m t) nothing_marked in
     ap (λ (m : Option Mark). body_at size (add_line first m (add_line second (mark_of outer_boundary (without_end b)) rest)).marked) begins
@@ -259,7 +259,7 @@ opened size a b lines begins plain settled bound =
     ∙ ap (under size t.marked second (third ∷ t.front)) bound
     ∙ after_empty size t third (end_dropped [])
   where
-    after_empty : (size : ℕ) (t : Blocks) (third : Line) → third.text ≡ [] → under size t.marked third (third ∷ t.front) (Some inner_boundary) ≡ when_closed size t.marked (requests_at size (blocks_of inner_boundary t.front).marked)
+    after_empty : (size : ℕ) (t : Blocks) (third : LineView) → third.text ≡ [] → under size t.marked third (third ∷ t.front) (Some inner_boundary) ≡ when_closed size t.marked (requests_at size (blocks_of inner_boundary t.front).marked)
     after_empty size t third empty = ap (λ (text : List ℕ). change_set size t.marked inner_boundary (cond (is_nothing text) (third ∷ t.front) (from_first is_empty t.front))) empty
 
 outer_begins : mark_of outer_boundary (without_end outer_line) ≡ Some Delimiter
@@ -308,11 +308,11 @@ body_found size replies plain =
     let lines = set_lines replies in
     let blocks = unmarked outer_boundary set_start lines (last_of_all ∷ []) (set_unmarked replies plain) in
     let front : (outer_blocks set_start (lines ++ last_of_all ∷ [])).front ≡ placed set_start lines =
-    ap (λ (b : Blocks). b.front) blocks ∙ ap (λ (ls : List Line). placed set_start lines ++ ls) (no_front (behind_lines set_start lines)) ∙ append-nil (placed set_start lines) in
+    ap (λ (b : Blocks). b.front) blocks ∙ ap (λ (ls : List LineView). placed set_start lines ++ ls) (no_front (behind_lines set_start lines)) ∙ append-nil (placed set_start lines) in
     opening_found size (lines ++ last_of_all ∷ [])
     ∙ ap (λ (b : Blocks). when_closed size b.marked (requests_at size (blocks_of inner_boundary (outer_blocks set_start (lines ++ last_of_all ∷ [])).front).marked)) blocks
     ∙ closed_by size (behind_lines set_start lines) _
-    ∙ ap (λ (ls : List Line). requests_at size (blocks_of inner_boundary ls).marked) front
+    ∙ ap (λ (ls : List LineView). requests_at size (blocks_of inner_boundary ls).marked) front
     ∙ set_found size set_start replies plain
 
 -- ---- the replies between the places
@@ -345,7 +345,7 @@ unfolding opening
 start_is = refl
 
 pub read_again : (replies : List (List ℕ)) → AllByRecursion IsPlain replies → requests_of outer_boundary (batch_text replies) ≡ Ok replies
-unfolding spans_of lines_at
+unfolding ranges_of lines_at
 read_again replies plain =
     let whole = batch_text replies in
     let lines : cut_lines whole ≡ outer_line ∷ outer_type_line ∷ line [] ∷ (set_lines replies ++ last_of_all ∷ []) =

@@ -3,7 +3,7 @@ use Rattle.std.proofs.Common.{ℕ, ◌≤◌, List, arith}
 use Rattle.std.specs.Prelude.{All}
 use Rattle.std.proofs.lemmas.List.Elements.{All-weaker}
 use Rattle.tab_batch.specs.Reading.{IsBelow}
-use Rattle.tab_batch.specs.declared.spans.Span.{Span}
+use Rattle.tab_batch.specs.declared.byte_ranges.ByteRange.{ByteRange}
 
-pub later : (at next : ℕ) (spans : List Span) → at ≤ next → All (IsBelow at) spans → All (IsBelow next) spans
-later at next spans up below = All-weaker (IsBelow at) (IsBelow next) (λ span is. record { ordered = is.ordered; below = omega (arith, is.below, up) }) spans below
+pub later : (at next : ℕ) (ranges : List ByteRange) → at ≤ next → All (IsBelow at) ranges → All (IsBelow next) ranges
+later at next ranges up below = All-weaker (IsBelow at) (IsBelow next) (λ range is. record { ordered = is.ordered; below = omega (arith, is.below, up) }) ranges below

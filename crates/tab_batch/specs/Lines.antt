@@ -2,7 +2,7 @@
 use Rattle.std.specs.Prelude.{ℕ, ◌+◌, List, [], ◌∷◌, length, reverse, ◌==◌, if◌then◌else◌}
 
 -- where a line begins, its text without its end, and where the next line begins
-pub record Line : Type 0 where
+pub record LineView : Type 0 where
   pub start : ℕ
   pub text : List ℕ
   pub next : ℕ
@@ -32,15 +32,15 @@ unfoldable pub without_end : List ℕ → List ℕ
 without_end line = reverse (behind_feed (reverse line))
 
 -- the lines, of which the first begins at the place
-abbrev pub placed : ℕ → List (List ℕ) → List Line
+abbrev pub placed : ℕ → List (List ℕ) → List LineView
 placed at [] = []
 placed at (line ∷ lines) = record { start = at; text = without_end line; next = at + length line } ∷ placed (at + length line) lines
 
 -- the lines of the bytes, which begin at the place
-unfoldable pub lines_at : ℕ → List ℕ → List Line
+unfoldable pub lines_at : ℕ → List ℕ → List LineView
 lines_at at bytes = placed at (cut_lines bytes)
 
 -- where the text of the last line ends, or the place where there is no line
-abbrev pub text_end : ℕ → List Line → ℕ
+abbrev pub text_end : ℕ → List LineView → ℕ
 text_end at [] = at
 text_end at (line ∷ lines) = text_end (line.start + length line.text) lines

@@ -2,7 +2,7 @@
 use Rattle.std.specs.Prelude.{ℕ, List, [], ◌∷◌, length, take, drop, Bool, Option, Some, None, option_and_then, codes, bytes_eq, if◌then◌else◌}
 use Rattle.std.specs.List.{list_all}
 use Rattle.httparse.specs.Grammar.{is_ows}
-use Rattle.tab_batch.specs.Lines.{Line}
+use Rattle.tab_batch.specs.Lines.{LineView}
 use Rattle.tab_batch.specs.declared.marks.Mark.{Mark}
 use Rattle.tab_batch.specs.declared.marks.Mark.TheVariants.{Delimiter, Closing}
 
@@ -33,19 +33,19 @@ by_mark Closing goes_on ends = ends
 -- a marked line, and the lines behind it up to the next one
 pub record Block : Type 0 where
   pub mark : Mark
-  pub line : Line
-  pub lines : List Line
+  pub line : LineView
+  pub lines : List LineView
 
 -- the lines before the first mark, and those from each mark on
 pub record Blocks : Type 0 where
-  pub front : List Line
+  pub front : List LineView
   pub marked : List Block
 
-abbrev pub add_line : Line → Option Mark → Blocks → Blocks
+abbrev pub add_line : LineView → Option Mark → Blocks → Blocks
 add_line line None blocks = record { front = line ∷ blocks.front; marked = blocks.marked }
 add_line line (Some mark) blocks = record { front = []; marked = record { mark = mark; line = line; lines = blocks.front } ∷ blocks.marked }
 
 -- the lines, cut at each one that is marked under the boundary
-abbrev pub blocks_of : List ℕ → List Line → Blocks
+abbrev pub blocks_of : List ℕ → List LineView → Blocks
 blocks_of boundary [] = record { front = []; marked = [] }
 blocks_of boundary (line ∷ lines) = add_line line (mark_of boundary line.text) (blocks_of boundary lines)

@@ -45,6 +45,6 @@ IsDecided (BadPart index) = ⊤
 IsDecided Memory = ⊥
 
 -- the answer to a batch where memory is found
-abbrev pub Gives : List ℕ → List ℕ → Answer → Type 0
-Gives boundary bytes (Ok messages) = IsBatch boundary bytes messages
-Gives boundary bytes (Err refused) = IsDecided refused × Refuses boundary bytes refused
+abbrev pub IsBatchAnswer : List ℕ → List ℕ → Answer → Type 0
+IsBatchAnswer boundary bytes (Ok messages) = IsBatch boundary bytes messages
+IsBatchAnswer boundary bytes (Err refused) = IsDecided refused × Refuses boundary bytes refused

@@ -4,10 +4,10 @@ ghost use Rattle.tab_batch.specs.Reading.{IsBelow};
 ghost use Rattle.tab_batch.specs.Refusals.{IsBatch, Refuses, PartsRefused};
 ghost use Rattle.tab_batch.specs.Requests.{AreRequests};
 
-use crate::bodies::spans_of;
+use crate::bodies::ranges_of;
 use crate::refusals::{BatchRefused, Memory};
 use crate::requests::read_request;
-use crate::spans::Span;
+use crate::byte_ranges::ByteRange;
 use std::alloc::Global;
 use tab_http::Message;
 
@@ -21,19 +21,19 @@ pub fn read_batch(
     ensures read { IfOk result (λ messages. IsBatch boundary.now bytes.now messages.items) }
     ensures refused { IfErr result (Refuses boundary.now bytes.now) }
 {
-    let spans = spans_of(alloc, boundary, bytes)?;
-    read_requests(alloc, bytes, &spans)
+    let ranges = ranges_of(alloc, boundary, bytes)?;
+    read_requests(alloc, bytes, &ranges)
 }
 
-fn read_requests(alloc: Global, bytes: &[u8], spans: &[Span]) -> Result<Vec<Message>, BatchRefused>
-    requires { All (IsBelow (length bytes.now)) spans.now }
-    ensures read { IfOk result (λ messages. AreRequests (map (between bytes.now) spans.now) messages.items) }
-    ensures refused { IfErr result (PartsRefused (map (between bytes.now) spans.now)) }
+fn read_requests(alloc: Global, bytes: &[u8], ranges: &[ByteRange]) -> Result<Vec<Message>, BatchRefused>
+    requires { All (IsBelow (length bytes.now)) ranges.now }
+    ensures read { IfOk result (λ messages. AreRequests (map (between bytes.now) ranges.now) messages.items) }
+    ensures refused { IfErr result (PartsRefused (map (between bytes.now) ranges.now)) }
 {
     let mut messages = Vec::new(alloc);
     let mut index = 0;
-    for span in spans {
-        let Some(message) = read_request(alloc, &bytes[span.start..span.end])? else {
+    for range in ranges {
+        let Some(message) = read_request(alloc, &bytes[range.start..range.end])? else {
             return Err(BatchRefused::BadPart { index });
         };
         let Ok(()) = messages.push(message) else {

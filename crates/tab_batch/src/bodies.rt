@@ -1,21 +1,21 @@
 ghost use Rattle.std.specs.Prelude.{◌≡◌, ℕ, ◌≤◌, List, [], length, Ok, All, IfOk, IfErr};
-ghost use Rattle.tab_batch.specs.Parts.{spans_of};
+ghost use Rattle.tab_batch.specs.Parts.{ranges_of};
 ghost use Rattle.tab_batch.specs.Reading.{Tells, in_head, in_typed_head, in_change_set, IsBelow};
-ghost use Rattle.tab_batch.specs.declared.sections.Place.TheVariants.{Before};
+ghost use Rattle.tab_batch.specs.declared.sections.ChangeSetState.TheVariants.{Before};
 
 use crate::boundaries::{behind_word, boundary_of};
 use crate::lines::line_at;
 use crate::marks::{Mark, mark_of};
 use crate::refusals::BatchRefused;
 use crate::sections::Section;
-use crate::spans::Span;
+use crate::byte_ranges::ByteRange;
 use std::alloc::Global;
 
 /// Where the requests of a batch stand.
-pub fn spans_of(alloc: Global, boundary: &[u8], bytes: &[u8]) -> Result<Vec<Span>, BatchRefused>
-    ensures found { IfOk result (λ spans. spans_of boundary.now bytes.now ≡ Ok spans.items) }
-    ensures refused { IfErr result (Tells (spans_of boundary.now bytes.now)) }
-    ensures within { IfOk result (λ spans. All (IsBelow (length bytes.now)) spans.items) }
+pub fn ranges_of(alloc: Global, boundary: &[u8], bytes: &[u8]) -> Result<Vec<ByteRange>, BatchRefused>
+    ensures found { IfOk result (λ ranges. ranges_of boundary.now bytes.now ≡ Ok ranges.items) }
+    ensures refused { IfErr result (Tells (ranges_of boundary.now bytes.now)) }
+    ensures within { IfOk result (λ ranges. All (IsBelow (length bytes.now)) ranges.items) }
 {
     let head = behind_delimiter(boundary, bytes)?;
     let (inner, typed) = inner_boundary(boundary, bytes, head)?;
@@ -25,8 +25,8 @@ pub fn spans_of(alloc: Global, boundary: &[u8], bytes: &[u8]) -> Result<Vec<Span
 
 /// The place behind the first delimiter.
 fn behind_delimiter(boundary: &[u8], bytes: &[u8]) -> Result<usize, BatchRefused>
-    ensures found { IfOk result (λ at. spans_of boundary.now bytes.now ≡ in_head boundary.now bytes.now at) }
-    ensures refused { IfErr result (Tells (spans_of boundary.now bytes.now)) }
+    ensures found { IfOk result (λ at. ranges_of boundary.now bytes.now ≡ in_head boundary.now bytes.now at) }
+    ensures refused { IfErr result (Tells (ranges_of boundary.now bytes.now)) }
     ensures within { IfOk result (λ at. at ≤ length bytes.now) }
 {
     let mut at = 0;
@@ -94,11 +94,11 @@ fn read_change_set(
     bytes: &[u8],
     inner: &[u8],
     start: usize,
-) -> Result<Vec<Span>, BatchRefused>
+) -> Result<Vec<ByteRange>, BatchRefused>
     requires { start ≤ length bytes.now }
-    ensures found { IfOk result (λ spans. in_change_set boundary.now bytes.now inner.now [] Before start ≡ Ok spans.items) }
+    ensures found { IfOk result (λ ranges. in_change_set boundary.now bytes.now inner.now [] Before start ≡ Ok ranges.items) }
     ensures refused { IfErr result (Tells (in_change_set boundary.now bytes.now inner.now [] Before start)) }
-    ensures within { IfOk result (λ spans. All (IsBelow (length bytes.now)) spans.items) }
+    ensures within { IfOk result (λ ranges. All (IsBelow (length bytes.now)) ranges.items) }
 {
     let mut section = Section::new(alloc);
     let mut at = start;

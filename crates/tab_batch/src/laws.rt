@@ -1,12 +1,12 @@
 ghost use Rattle.std.specs.Prelude.{◌≡◌, ℕ, List, Ok};
 ghost use Rattle.std.specs.List.{AllByRecursion};
 ghost use Rattle.tab_batch.specs.Parts.{requests_of};
-ghost use Rattle.tab_batch.specs.Refusals.{Answer, Gives};
+ghost use Rattle.tab_batch.specs.Refusals.{Answer, IsBatchAnswer};
 ghost use Rattle.tab_batch.specs.Replies.{IsPlain, batch_text, outer_boundary};
 
 /// The bytes of a batch decide its answer, where memory is found.
-pub fn one_answer()
-    ensures { (boundary bytes : List ℕ) (a b : Answer) → Gives boundary bytes a → Gives boundary bytes b → a ≡ b }
+pub fn a_batch_has_one_answer()
+    ensures { (boundary bytes : List ℕ) (a b : Answer) → IsBatchAnswer boundary bytes a → IsBatchAnswer boundary bytes b → a ≡ b }
 {}
 
 /// What is written of replies whose lines mark off no part is read as these replies again.

@@ -4,6 +4,7 @@
 mod batches;
 mod bodies;
 mod boundaries;
+mod byte_ranges;
 mod laws;
 mod lines;
 mod marks;
@@ -11,10 +12,9 @@ mod refusals;
 mod replies;
 mod requests;
 mod sections;
-mod spans;
 
 pub use batches::read_batch;
 pub use boundaries::boundary_of;
-pub use laws::{one_answer, replies_are_read_again};
+pub use laws::{a_batch_has_one_answer, replies_are_read_again};
 pub use refusals::{BatchRefused, Memory};
 pub use replies::write_batch;

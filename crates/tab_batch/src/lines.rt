@@ -4,7 +4,7 @@ ghost use Rattle.tab_batch.specs.Reading.{seen, lines_from};
 
 /// A line of a body.
 #[derive(Clone, Copy)]
-pub struct Line<'b> {
+pub struct BodyLine<'b> {
     /// Where it begins.
     pub start: usize,
     /// Its bytes, without the end of the line.
@@ -14,7 +14,7 @@ pub struct Line<'b> {
 }
 
 /// The line at that place, if there is one.
-pub fn line_at(bytes: &[u8], at: usize) -> Option<Line<'_>>
+pub fn line_at(bytes: &[u8], at: usize) -> Option<BodyLine<'_>>
     requires { at ≤ length bytes.now }
     ensures cases { MatchOption result (lines_from bytes.now at ≡ []) (λ line. lines_from bytes.now at ≡ seen line ∷ lines_from bytes.now line.next) }
     ensures further { IfSome result (λ line. (at ≡ line.start) × (at < line.next) × (line.start + length line.text.now ≤ line.next) × (line.next ≤ length bytes.now)) }
@@ -24,7 +24,7 @@ pub fn line_at(bytes: &[u8], at: usize) -> Option<Line<'_>>
         return None;
     }
     let size = line_size(rest);
-    Some(Line {
+    Some(BodyLine {
         start: at,
         text: without_end(&rest[..size]),
         next: at + size,

@@ -1,24 +1,24 @@
 ghost use Rattle.std.specs.Prelude.{◌≡◌, ℕ, ◌+◌, ◌≤◌, [], IfOk, IfErr, OnOk, Ok, All, length};
 ghost use Rattle.tab_batch.specs.Marks.{Blocks, add_line};
 ghost use Rattle.tab_batch.specs.Parts.{Found};
-ghost use Rattle.tab_batch.specs.Reading.{seen, Tells, from_place, behind_those, behind_ended, from_section, no_blocks, IsBelow, PlaceBelow, SectionBelow, place_behind};
-ghost use Rattle.tab_batch.specs.declared.sections.Place.TheVariants.{Before};
+ghost use Rattle.tab_batch.specs.Reading.{seen, Tells, from_state, behind_those, behind_ended, from_section, no_blocks, IsBelow, StateBelow, SectionBelow, state_behind};
+ghost use Rattle.tab_batch.specs.declared.sections.ChangeSetState.TheVariants.{Before};
 
-use crate::lines::Line;
+use crate::lines::BodyLine;
 use crate::marks::Mark;
 use crate::refusals::{BatchRefused, Memory};
-use crate::spans::Span;
+use crate::byte_ranges::ByteRange;
 use std::alloc::Global;
 
 /// How far the reading of a change set has come.
 #[derive(Clone, Copy)]
-pub enum Place {
+pub enum ChangeSetState {
     /// Before its first mark.
     Before,
     /// In the head of a part.
     Head,
     /// In the request of a part, which stands here so far.
-    Text(Span),
+    Text(ByteRange),
     /// Behind its closing line.
     Closed,
     /// Behind a line that breaks a rule, at this place.
@@ -28,27 +28,27 @@ pub enum Place {
 /// A change set as its lines are read.
 #[derive(Drop)]
 pub struct Section {
-    place: Place,
+    place: ChangeSetState,
     /// Where the requests stand of the parts that have ended.
-    spans: Vec<Span>,
+    ranges: Vec<ByteRange>,
 }
 
 impl Section {
     pub fn new(alloc: Global) -> Section
         ensures place { result.place ≡ Before }
-        ensures spans { result.spans.items ≡ [] }
+        ensures ranges { result.ranges.items ≡ [] }
     {
         Section {
-            place: Place::Before,
-            spans: Vec::new(alloc),
+            place: ChangeSetState::Before,
+            ranges: Vec::new(alloc),
         }
     }
 
     /// Takes the next line, and what it marks under the boundary of the change set.
-    pub fn take(&mut self, mark: Option<Mark>, line: Line<'_>) -> Result<(), Memory>
+    pub fn take(&mut self, mark: Option<Mark>, line: BodyLine<'_>) -> Result<(), Memory>
         requires below { SectionBelow line.start self.old }
         requires inside { line.start + length line.text.now ≤ line.next }
-        ensures goes_on { OnOk result ((size : ℕ) (blocks : Blocks) → from_section size self.old.spans.items self.old.place (add_line (seen line.entry) mark blocks) ≡ from_section size self.new.spans.items self.new.place blocks) }
+        ensures goes_on { OnOk result ((size : ℕ) (blocks : Blocks) → from_section size self.old.ranges.items self.old.place (add_line (seen line.entry) mark blocks) ≡ from_section size self.new.ranges.items self.new.place blocks) }
         ensures below { OnOk result (SectionBelow line.entry.next self.new) }
     {
         self.end_request(mark)?;
@@ -59,73 +59,73 @@ impl Section {
     /// Keeps the request that ends with the mark.
     fn end_request(&mut self, mark: Option<Mark>) -> Result<(), Memory>
         ensures place { self.new.place ≡ self.old.place }
-        ensures ended { OnOk result ((more : Found) → behind_those self.new.spans.items more ≡ behind_those self.old.spans.items (behind_ended self.old.place mark more)) }
+        ensures ended { OnOk result ((more : Found) → behind_those self.new.ranges.items more ≡ behind_those self.old.ranges.items (behind_ended self.old.place mark more)) }
         ensures below { OnOk result ((at : ℕ) → SectionBelow at self.old → SectionBelow at self.new) }
     {
         if mark.is_none() {
             return Ok(());
         }
-        if let Place::Text(span) = self.place {
-            self.spans.push(span)?;
+        if let ChangeSetState::Text(range) = self.place {
+            self.ranges.push(range)?;
         }
         Ok(())
     }
 
     /// The requests, where no more lines follow and the body has that size.
-    pub fn finish(self, size: usize) -> Result<Vec<Span>, BatchRefused>
-        ensures found { IfOk result (λ spans. from_section size self.spans.items self.place no_blocks ≡ Ok spans.items) }
-        ensures refused { IfErr result (Tells (from_section size self.spans.items self.place no_blocks)) }
-        ensures kept { IfOk result (λ spans. spans.items ≡ self.spans.items) }
+    pub fn finish(self, size: usize) -> Result<Vec<ByteRange>, BatchRefused>
+        ensures found { IfOk result (λ ranges. from_section size self.ranges.items self.place no_blocks ≡ Ok ranges.items) }
+        ensures refused { IfErr result (Tells (from_section size self.ranges.items self.place no_blocks)) }
+        ensures kept { IfOk result (λ ranges. ranges.items ≡ self.ranges.items) }
     {
         match self.place {
-            Place::Closed => Ok(self.spans),
-            Place::Broken(at) => Err(BatchRefused::BadMultipart { at }),
-            Place::Before | Place::Head | Place::Text(_) => {
+            ChangeSetState::Closed => Ok(self.ranges),
+            ChangeSetState::Broken(at) => Err(BatchRefused::BadMultipart { at }),
+            ChangeSetState::Before | ChangeSetState::Head | ChangeSetState::Text(_) => {
                 Err(BatchRefused::BadMultipart { at: size })
             }
         }
     }
 }
 
-impl Place {
+impl ChangeSetState {
     /// The place behind one more line, with what it marks.
-    fn behind(self, mark: Option<Mark>, line: Line<'_>) -> Place
-        requires below { PlaceBelow line.start self }
+    fn behind(self, mark: Option<Mark>, line: BodyLine<'_>) -> ChangeSetState
+        requires below { StateBelow line.start self }
         requires inside { line.start + length line.text.now ≤ line.next }
-        ensures goes_on { (size : ℕ) (blocks : Blocks) → from_place size self (add_line (seen line.entry) mark blocks) ≡ behind_ended self mark (from_place size result blocks) }
-        ensures below { PlaceBelow line.entry.next result }
+        ensures goes_on { (size : ℕ) (blocks : Blocks) → from_state size self (add_line (seen line.entry) mark blocks) ≡ behind_ended self mark (from_state size result blocks) }
+        ensures below { StateBelow line.entry.next result }
     {
         match self {
-            Place::Before => match mark {
-                Some(mark) => Place::behind_mark(mark),
-                None => Place::Before,
+            ChangeSetState::Before => match mark {
+                Some(mark) => ChangeSetState::behind_mark(mark),
+                None => ChangeSetState::Before,
             },
-            Place::Head => match mark {
-                Some(_) => Place::Broken(line.start),
-                None if line.text.is_empty() => Place::Text(Span {
+            ChangeSetState::Head => match mark {
+                Some(_) => ChangeSetState::Broken(line.start),
+                None if line.text.is_empty() => ChangeSetState::Text(ByteRange {
                     start: line.next,
                     end: line.next,
                 }),
-                None => Place::Head,
+                None => ChangeSetState::Head,
             },
-            Place::Text(span) => match mark {
-                Some(mark) => Place::behind_mark(mark),
-                None => Place::Text(Span {
-                    start: span.start,
+            ChangeSetState::Text(range) => match mark {
+                Some(mark) => ChangeSetState::behind_mark(mark),
+                None => ChangeSetState::Text(ByteRange {
+                    start: range.start,
                     end: line.start + line.text.len(),
                 }),
             },
-            Place::Closed => Place::Closed,
-            Place::Broken(at) => Place::Broken(at),
+            ChangeSetState::Closed => ChangeSetState::Closed,
+            ChangeSetState::Broken(at) => ChangeSetState::Broken(at),
         }
     }
 
-    fn behind_mark(mark: Mark) -> Place
-        ensures { result ≡ place_behind mark }
+    fn behind_mark(mark: Mark) -> ChangeSetState
+        ensures { result ≡ state_behind mark }
     {
         match mark {
-            Mark::Delimiter => Place::Head,
-            Mark::Closing => Place::Closed,
+            Mark::Delimiter => ChangeSetState::Head,
+            Mark::Closing => ChangeSetState::Closed,
         }
     }
 }

@@ -10,7 +10,7 @@ use Rattle.tab_ops.specs.declared.ops.Op.{Op}
 use Rattle.tab_ops.specs.declared.ops.Op.TheVariants.{Insert, Update, Replace, Merge, MergeIn, Delete}
 use Rattle.tab_ops.specs.declared.groups.OpRefused.{OpRefused}
 use Rattle.tab_ops.specs.declared.groups.OpRefused.TheVariants.{AlreadyThere, NotThere, Condition, TooMany, TooLarge, Memory}
-use Rattle.tab_history.specs.declared.exchanges.Ask.TheVariants.{Change as Writing}
+use Rattle.tab_history.specs.declared.asks.Ask.TheVariants.{Change as Writing}
 use Rattle.tab_service.specs.Replies.{SuitsRefusal}
 
 -- the place that it names is one of so many

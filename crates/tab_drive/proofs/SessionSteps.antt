@@ -11,9 +11,9 @@ use Rattle.tab_ops.specs.Groups.{ItemView}
 use Rattle.tab_history.specs.World.{table_of}
 use Rattle.tab_history.specs.declared.entries.Entry.{Entry}
 use Rattle.tab_history.specs.declared.entries.Denied.TheVariants.{Memory}
-use Rattle.tab_history.specs.declared.exchanges.Ask.{Ask}
-use Rattle.tab_history.specs.declared.exchanges.Ask.TheVariants.{Create as Creating, Drop as Dropping, Tables as Listing, Get as Getting, Page as Paging, Change as Writing}
-use Rattle.tab_history.specs.declared.exchanges.Reply.TheVariants.{Denied as Refusal}
+use Rattle.tab_history.specs.declared.asks.Ask.{Ask}
+use Rattle.tab_history.specs.declared.asks.Ask.TheVariants.{Create as Creating, Drop as Dropping, Tables as Listing, Get as Getting, Page as Paging, Change as Writing}
+use Rattle.tab_history.specs.declared.asks.Reply.TheVariants.{Denied as Refusal}
 use Rattle.tab_json.specs.declared.entities.JsonForm.{JsonForm}
 use Rattle.tab_service.specs.declared.forms.Form.{Form}
 use Rattle.tab_service.specs.declared.forms.PartForm.{PartForm}

@@ -2,7 +2,7 @@
 use Rattle.std.proofs.Common.{◌≡◌, ℕ, List, [], ◌∷◌, ◌++◌, length, refl, sym, ap, ◌∙◌, subst, arith, inl, inr, length-append, append_assoc, Some}
 use Rattle.tab_history.specs.declared.entries.Entry.{Entry}
 use Rattle.tab_history.specs.declared.entries.Entry.TheVariants.{Resolve}
-use Rattle.tab_history.specs.declared.exchanges.Reply.{Reply}
+use Rattle.tab_history.specs.declared.asks.Reply.{Reply}
 use Rattle.tab_service.specs.declared.forms.Request.{Request}
 use Rattle.tab_service.specs.Replies.{reply_text}
 use Rattle.tab_auth.specs.declared.signatures.Keys.{Keys}

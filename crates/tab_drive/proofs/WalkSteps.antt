@@ -15,9 +15,9 @@ use Rattle.tab_history.specs.Legality.{Legal, after_all}
 use Rattle.tab_history.specs.declared.entries.Entry.{Entry}
 use Rattle.tab_history.specs.declared.entries.Entry.TheVariants.{Resolve, Get, Page, Change, Create, Drop, List as Listed, Denied}
 use Rattle.tab_history.specs.declared.entries.Denied.TheVariants.{NoTable, TableThere, Op, TimeSpent, IdsSpent, Memory}
-use Rattle.tab_history.specs.declared.exchanges.Ask.{Ask}
-use Rattle.tab_history.specs.declared.exchanges.Ask.TheVariants.{Create as Creating, Drop as Dropping, Tables as Listing, Get as Getting, Page as Paging, Change as Writing}
-use Rattle.tab_history.specs.declared.exchanges.Reply.TheVariants.{Listed as PageGiven, Changed as Written, Made, Dropped as Gone}
+use Rattle.tab_history.specs.declared.asks.Ask.{Ask}
+use Rattle.tab_history.specs.declared.asks.Ask.TheVariants.{Create as Creating, Drop as Dropping, Tables as Listing, Get as Getting, Page as Paging, Change as Writing}
+use Rattle.tab_history.specs.declared.asks.Reply.TheVariants.{Listed as PageGiven, Changed as Written, Made, Dropped as Gone}
 use Rattle.tab_history.proofs.ChangeLaws.{may_have_next, next_tick-raised, table_for-first}
 use Rattle.tab_page.specs.Pages.{page_of, page_below, start_key}
 use Rattle.tab_page.proofs.PageLaws.{end_above-first}

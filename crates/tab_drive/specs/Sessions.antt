@@ -9,10 +9,10 @@ use Rattle.tab_history.specs.Legality.{Legal}
 use Rattle.tab_history.specs.declared.entries.Entry.{Entry}
 use Rattle.tab_history.specs.declared.entries.Entry.TheVariants.{Resolve, Get, Page, Change, Create, Drop, List as Listed, Denied}
 use Rattle.tab_history.specs.declared.entries.Denied.TheVariants.{NoTable, TableThere, NotFound, Op, TimeSpent, IdsSpent, Memory}
-use Rattle.tab_history.specs.declared.exchanges.Ask.{Ask}
-use Rattle.tab_history.specs.declared.exchanges.Ask.TheVariants.{Create as Creating, Drop as Dropping, Tables as Listing, Get as Getting, Page as Paging, Change as Writing}
-use Rattle.tab_history.specs.declared.exchanges.Reply.{Reply}
-use Rattle.tab_history.specs.declared.exchanges.Reply.TheVariants.{Found, Listed as PageGiven, Changed as Written, Made, Dropped as Gone, Tables, Denied as Refusal}
+use Rattle.tab_history.specs.declared.asks.Ask.{Ask}
+use Rattle.tab_history.specs.declared.asks.Ask.TheVariants.{Create as Creating, Drop as Dropping, Tables as Listing, Get as Getting, Page as Paging, Change as Writing}
+use Rattle.tab_history.specs.declared.asks.Reply.{Reply}
+use Rattle.tab_history.specs.declared.asks.Reply.TheVariants.{Found, Listed as PageGiven, Changed as Written, Made, Dropped as Gone, Tables, Denied as Refusal}
 use Rattle.tab_service.specs.declared.forms.Request.{Request}
 use Rattle.tab_service.specs.Replies.{reply_text}
 use Rattle.tab_drive.specs.Walk.{Walk, name_of, Happens, reply_outcome, walk_after}

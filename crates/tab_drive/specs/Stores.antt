@@ -13,10 +13,10 @@ use Rattle.tab_ops.specs.declared.plans.Changes.{Changes}
 use Rattle.tab_history.specs.World.{Named, table_of, with_name, without_name, names_from}
 use Rattle.tab_history.specs.declared.entries.Denied.{Denied as Why}
 use Rattle.tab_history.specs.declared.entries.Denied.TheVariants.{NoTable, TableThere, NotFound, Op, TimeSpent, IdsSpent, Memory}
-use Rattle.tab_history.specs.declared.exchanges.Ask.{Ask}
-use Rattle.tab_history.specs.declared.exchanges.Ask.TheVariants.{Create as Creating, Drop as Dropping, Tables as Listing, Get as Getting, Page as Paging, Change as Writing}
-use Rattle.tab_history.specs.declared.exchanges.Reply.{Reply}
-use Rattle.tab_history.specs.declared.exchanges.Reply.TheVariants.{Found, Listed, Changed, Made, Dropped, Tables, Denied}
+use Rattle.tab_history.specs.declared.asks.Ask.{Ask}
+use Rattle.tab_history.specs.declared.asks.Ask.TheVariants.{Create as Creating, Drop as Dropping, Tables as Listing, Get as Getting, Page as Paging, Change as Writing}
+use Rattle.tab_history.specs.declared.asks.Reply.{Reply}
+use Rattle.tab_history.specs.declared.asks.Reply.TheVariants.{Found, Listed, Changed, Made, Dropped, Tables, Denied}
 use Rattle.tab_drive.specs.Walk.{name_of, last_number}
 use Rattle.tab_drive.specs.declared.stores.Decided.{Decided}
 use Rattle.tab_drive.specs.declared.stores.Effect.{Effect}

@@ -5,14 +5,14 @@ ghost use Rattle.tab_service.specs.declared.decisions.Decided.{Decided};
 ghost use Rattle.tab_drive.specs.Messages.{ComeTo};
 ghost use Rattle.tab_drive.specs.Walk.{Walk, Exchange, Follows, bytes_of, entries_of, text_of};
 
-use tab_http::one_answer;
+use tab_http::bytes_spell_one_answer;
 use tab_service::messages_have_one_decision;
 
 /// The bytes of a message come to one request, or to the reply to one refusal.
 pub fn one_decision()
     ensures { (keys : Keys) (moment : ℕ) (bytes : List ℕ) (a b : Decided) → ComeTo keys moment bytes a → ComeTo keys moment bytes b → a ≡ b }
 {
-    one_answer();
+    bytes_spell_one_answer();
     messages_have_one_decision();
 }
 

@@ -3,14 +3,14 @@
 #![tactic(auto)]
 
 mod entries;
-mod exchanges;
+mod asks;
 mod laws;
-mod table_lists;
+mod table_names;
 
 pub use entries::{Bounds, Denied, Doubt, Entry, History};
-pub use exchanges::{Ask, Reply};
+pub use asks::{Ask, Reply};
 pub use laws::{
     a_followed_query, drops_hide, followed_queries, made_tables_are_new, still_queries,
     table_numbers_rise, tables_that_come_and_go, ticks_rise, ticks_tell_rows, worlds_stay,
 };
-pub use table_lists::TableNames;
+pub use table_names::TableNames;

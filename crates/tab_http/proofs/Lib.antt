@@ -5,6 +5,6 @@ mod HeadLemmas
 mod HeaderLemmas
 mod MessageLemmas
 mod PastLemmas
-mod PlaceLemmas
+mod HeadStateLemmas
 mod ReadingLemmas
 mod TakenLemmas

@@ -119,19 +119,19 @@ headless_answers bytes _ ReadFault p q = absurd q
 headless_answers bytes _ Memory p q = absurd q
 headless_answers bytes _ _ p q = absurd p
 
-pub one_answer : (bytes : List ℕ) (a b : Answer) → Spells bytes a → Spells bytes b → (a ≡ b) ⊎ (HasNoHead bytes × IsParsers a × IsParsers b)
-one_answer bytes a b (behind_head h x p e) (behind_head k y q f) =
+pub bytes_spell_one_answer : (bytes : List ℕ) (a b : Answer) → Spells bytes a → Spells bytes b → (a ≡ b) ⊎ (HasNoHead bytes × IsParsers a × IsParsers b)
+bytes_spell_one_answer bytes a b (behind_head h x p e) (behind_head k y q f) =
     let same = request_unique bytes h k x y p.reads q.reads in
     inl (e ∙ ap (λ (g : RequestHead). answer_of g x) same.0 ∙ ap (answer_of k) same.1 ∙ sym f)
-one_answer bytes a b (behind_head h x p e) (without_head r none cause f) = absurd (none h x p)
-one_answer bytes a b (without_head r none cause e) (behind_head h x p f) = absurd (none h x p)
-one_answer bytes a b (without_head r none p e) (without_head s none_too q f) =
+bytes_spell_one_answer bytes a b (behind_head h x p e) (without_head r none cause f) = absurd (none h x p)
+bytes_spell_one_answer bytes a b (without_head r none cause e) (behind_head h x p f) = absurd (none h x p)
+bytes_spell_one_answer bytes a b (without_head r none p e) (without_head s none_too q f) =
     ⊎_elim (λ same. inl (e ∙ ap Err same ∙ sym f)) (λ parsers. inr (none, subst IsParsers (sym e) parsers.0, subst IsParsers (sym f) parsers.1)) (headless_answers bytes r s p q)
 
 -- ---- some answer
 
-pub some_answer : (bytes : List ℕ) → ((answer : Answer) → Spells bytes answer → ⊥) → ⊥
-some_answer bytes none = refuse (cases_lt (length bytes) 32768)
+pub bytes_spell_some_answer : (bytes : List ℕ) → ((answer : Answer) → Spells bytes answer → ⊥) → ⊥
+bytes_spell_some_answer bytes none = refuse (cases_lt (length bytes) 32768)
   where
     no_head : HasNoHead bytes
     no_head h behind begins = none (answer_of h behind) (behind_head h behind begins refl)

@@ -7,13 +7,13 @@ use Rattle.std.proofs.lemmas.Bool.{both_ways}
 use Rattle.std.proofs.lemmas.List.{take-append-le, take_at, take_rest, append-nil, drop_at, drop-append-le}
 use Rattle.std.proofs.lemmas.List.Sums.{fold-append}
 use Rattle.httparse.specs.Grammar.{RequestHead, print_request, ReadsRequest}
-use Rattle.tab_http.proofs.PlaceLemmas.{head_ends, ended_within}
+use Rattle.tab_http.proofs.HeadStateLemmas.{head_ends, ended_within}
 use Rattle.tab_http.specs.Heads.{HasNoHead}
 use Rattle.tab_http.specs.Messages.{RefusesHeadless, IsParsed, IsOpen, in_head}
-use Rattle.tab_http.specs.Places.{next_place, place_after}
+use Rattle.tab_http.specs.HeadStates.{next_state, state_after}
 use Rattle.tab_http.specs.Reading.{WereNeeded, none, last, Gathered, NeverHasHead, HeadRefused, IsReadRefusal, ReadRefused}
-use Rattle.tab_http.specs.declared.places.Place.{Place}
-use Rattle.tab_http.specs.declared.places.Place.TheVariants.{Blank, Ended}
+use Rattle.tab_http.specs.declared.head_states.HeadState.{HeadState}
+use Rattle.tab_http.specs.declared.head_states.HeadState.TheVariants.{Blank, Ended}
 use Rattle.tab_http.specs.declared.refusals.HttpRefused.{HttpRefused}
 use Rattle.tab_http.specs.declared.refusals.HttpRefused.TheVariants.{EndBetween, EndInside, Malformed, HeadTooLong, NoLength, BodyTooLong, ReadFault, Memory}
 use Rattle.tab_outside.specs.Transfers.{Moved}
@@ -31,7 +31,7 @@ gathered_more old middle new before there after first is_open moved little = rec
 }
 
 -- bytes in which no head has ended are open
-pub open_before_end : (bytes : List ℕ) → place_after bytes ≢ Ended → length bytes < 32768 → IsOpen bytes
+pub open_before_end : (bytes : List ℕ) → state_after bytes ≢ Ended → length bytes < 32768 → IsOpen bytes
 open_before_end bytes not_yet short = in_head (λ h rest begins. not_yet (head_ends bytes h rest begins.reads)) short
 
 -- bytes that never have a head still have none when more have come
@@ -43,20 +43,20 @@ pub open_without_head : (old new : Option (List ℕ)) (before after : List ℕ) 
 open_without_head old new before after never gathered short = in_head (still_none old new before after never gathered) short
 
 -- the place behind all bytes, from that behind those which were seen
-pub place_behind : (bytes : List ℕ) (seen : ℕ) (place : Place) → place ≡ place_after (take seen bytes) → fold next_place place (drop seen bytes) ≡ place_after bytes
+pub place_behind : (bytes : List ℕ) (seen : ℕ) (place : HeadState) → place ≡ state_after (take seen bytes) → fold next_state place (drop seen bytes) ≡ state_after bytes
 place_behind bytes seen place is =
-    ap (λ (p : Place). fold next_place p (drop seen bytes)) is ∙ sym (fold-append next_place Blank (take seen bytes) (drop seen bytes)) ∙ ap place_after (take-append-drop seen bytes)
+    ap (λ (p : HeadState). fold next_state p (drop seen bytes)) is ∙ sym (fold-append next_state Blank (take seen bytes) (drop seen bytes)) ∙ ap state_after (take-append-drop seen bytes)
 
 -- the place is that of the bytes that were there
-pub place_kept : (old new : Option (List ℕ)) (there after : List ℕ) (seen : ℕ) (place : Place) → seen ≡ length there → place ≡ place_after there → Moved old new there after → place ≡ place_after (take seen after)
-place_kept old new there after seen place size is moved = is ∙ ap place_after (sym (ap (take seen) moved.behind ∙ take_at there moved.bytes seen (sym size)))
+pub place_kept : (old new : Option (List ℕ)) (there after : List ℕ) (seen : ℕ) (place : HeadState) → seen ≡ length there → place ≡ state_after there → Moved old new there after → place ≡ state_after (take seen after)
+place_kept old new there after seen place size is moved = is ∙ ap state_after (sym (ap (take seen) moved.behind ∙ take_at there moved.bytes seen (sym size)))
 
 -- the place behind all bytes, as a walk from those that were seen on gives it
-pub place_read : (bytes shown : List ℕ) (seen : ℕ) (place after : Place) → shown ≡ bytes → place ≡ place_after (take seen bytes) → after ≡ fold next_place place (take (length shown - seen) (drop seen shown)) → after ≡ place_after bytes
+pub place_read : (bytes shown : List ℕ) (seen : ℕ) (place after : HeadState) → shown ≡ bytes → place ≡ state_after (take seen bytes) → after ≡ fold next_state place (take (length shown - seen) (drop seen shown)) → after ≡ state_after bytes
 place_read bytes shown seen place after same is walked = rw same at (rw take_rest at walked) ∙ place_behind bytes seen place is
 
 -- bytes behind which no head has ended, by a test of their place
-pub open_at : (bytes : List ℕ) (place : Place) (test : Bool) → place ≡ place_after bytes → ((test ≡ true) ↔ (place ≡ Ended)) → test ≡ false → length bytes < 32768 → IsOpen bytes
+pub open_at : (bytes : List ℕ) (place : HeadState) (test : Bool) → place ≡ state_after bytes → ((test ≡ true) ↔ (place ≡ Ended)) → test ≡ false → length bytes < 32768 → IsOpen bytes
 open_at bytes place test is tells not_yet short = open_before_end bytes (λ ended. both_ways test not_yet (tells.1 (is ∙ ended))) short
 
 -- a read that was refused where the bytes are open
@@ -108,7 +108,7 @@ head_within bytes more h rest reads short =
     ((reads.0, sym (take-append-drop size bytes) ∙ ap (λ (xs : List ℕ). xs ++ drop size bytes) front), behind)
 
 -- bytes in which a head may have ended, or which are as many as a head may have, never have one that they have not
-pub never_later : (bytes : List ℕ) → HasNoHead bytes → (place_after bytes ≡ Ended) ⊎ (32768 ≤ length bytes) → NeverHasHead bytes
+pub never_later : (bytes : List ℕ) → HasNoHead bytes → (state_after bytes ≡ Ended) ⊎ (32768 ≤ length bytes) → NeverHasHead bytes
 never_later bytes no_head reached more h rest begins =
     let inside : length (print_request h) ≤ length bytes = ⊎_elim (λ ended. ended_within bytes more h rest ended begins.reads) (λ many. omega (arith, many, begins.short)) reached in
     no_head h (drop (length (print_request h)) bytes) (record { reads = (head_within bytes more h rest begins.reads inside).0; few = begins.few; short = begins.short })

@@ -1,5 +1,5 @@
 pub mod Headers
 pub mod Heads
-pub mod Places
+pub mod HeadStates
 pub mod Messages
 pub mod Reading

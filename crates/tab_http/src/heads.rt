@@ -4,7 +4,7 @@ ghost use Rattle.httparse.specs.Spans.{IsHeaderWithin, RequestOverflows, span_by
 ghost use Rattle.tab_http.specs.Heads.{HasNoHead, HasParts, IsHead, IsFrontHead, header_at};
 ghost use Rattle.tab_http.specs.Messages.{message_of};
 
-use crate::fields::closes;
+use crate::header_fields::closes;
 use crate::messages::{Header, Headers, Message};
 use crate::texts::{Bytes, Text};
 use httparse::Status;

@@ -5,12 +5,12 @@ ghost use Rattle.tab_http.specs.Reading.{TookMessage};
 ghost use Rattle.tab_http.specs.declared.messages.Message.{Message as TheMessage};
 
 /// No bytes spell two answers, but where they begin with no head and the parser decides between two refusals.
-pub fn one_answer()
+pub fn bytes_spell_one_answer()
     ensures { (bytes : List ℕ) (a b : Answer) → Spells bytes a → Spells bytes b → (a ≡ b) ⊎ (HasNoHead bytes × IsParsers a × IsParsers b) }
 {}
 
 /// There are no bytes that spell no answer.
-pub fn some_answer()
+pub fn bytes_spell_some_answer()
     ensures { (bytes : List ℕ) → ((answer : Answer) → Spells bytes answer → ⊥) → ⊥ }
 {}
 

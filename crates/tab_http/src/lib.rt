@@ -4,22 +4,22 @@
 
 mod bodies;
 mod decimals;
-mod fields;
-mod gathering;
+mod header_fields;
+mod read_ahead;
 mod heads;
 mod laws;
 mod messages;
-mod places;
+mod head_states;
 mod reading;
 mod refusals;
 mod texts;
 mod writing;
 
-pub use fields::trim_blanks;
+pub use header_fields::trim_blanks;
 pub use heads::{Head, LONGEST_HEAD};
 pub use laws::{
-    little_is_read_past_a_message, one_answer, open_bytes_spell_no_message,
-    same_message_before_more, some_answer,
+    little_is_read_past_a_message, bytes_spell_one_answer, open_bytes_spell_no_message,
+    same_message_before_more, bytes_spell_some_answer,
 };
 pub use messages::{Header, Headers, Message, first_value};
 pub use reading::read_message;

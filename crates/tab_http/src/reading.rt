@@ -7,8 +7,8 @@ ghost use Rattle.tab_outside.specs.Faults.{Rose};
 
 use crate::HttpRefused;
 use crate::bodies::read_body;
-use crate::fields::body_size;
-use crate::gathering::{read_to_head_end, read_to_limit};
+use crate::header_fields::body_size;
+use crate::read_ahead::{read_to_head_end, read_to_limit};
 use crate::heads::{Head, LONGEST_HEAD, is_beyond_repair};
 use crate::messages::Message;
 use std::alloc::Global;

@@ -18,7 +18,7 @@ use Rattle.tab_edm.specs.Values.{is_reserved}
 use Rattle.tab_edm.specs.declared.values.Value.{Value}
 use Rattle.tab_edm.specs.declared.values.Property.{Property}
 use Rattle.tab_json.specs.Bodies.{is_ignored, annotated_by, is_null, is_given, type_in, text_of, value_of, key_by, property_by, meaning_by, meaning_of, mapped, before, meanings, unless_one_refused, with_meaning, no_entity, entity_in}
-use Rattle.tab_json.specs.declared.meanings.Meaning.{Meaning}
+use Rattle.tab_json.specs.declared.members_read.Meaning.{Meaning}
 use Rattle.tab_json.specs.declared.bodies.BodyEntity.{BodyEntity}
 use Rattle.tab_json.specs.declared.bodies.JsonRefused.{JsonRefused}
 

@@ -12,7 +12,7 @@ use Rattle.tab_edm.specs.Values.{IsInTime}
 use Rattle.tab_edm.specs.declared.values.Value.{Value}
 use Rattle.tab_json.specs.Values.{named_type, own_type, value_as}
 use Rattle.tab_json.specs.declared.types.EdmType.{EdmType}
-use Rattle.tab_json.specs.declared.meanings.Meaning.{Meaning}
+use Rattle.tab_json.specs.declared.members_read.Meaning.{Meaning}
 use Rattle.tab_json.specs.declared.bodies.BodyEntity.{BodyEntity}
 use Rattle.tab_json.specs.declared.bodies.JsonRefused.{JsonRefused}
 use Rattle.tab_json.specs.declared.bodies.JsonRefused.TheVariants.{NotJson, NotObject, ValueType, Key}

@@ -5,7 +5,7 @@ ghost use Rattle.tab_edm.specs.Entities.{IsRising};
 ghost use Rattle.tab_edm.specs.Values.{is_reserved, IsInTime};
 ghost use Rattle.tab_json.specs.Bodies.{json_in, no_entity, with_meaning, IsTimely, entity_in, entity_body, table_body};
 
-use crate::meanings::{Meaning, meaning_of, value_type};
+use crate::members_read::{Meaning, meaning_of, value_type};
 use serde_json::{Map, Value as Json};
 use std::alloc::Global;
 use std::marker::Model;

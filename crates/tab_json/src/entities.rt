@@ -3,7 +3,7 @@ ghost use Rattle.serde_json.specs.View.{view};
 ghost use Rattle.tab_json.specs.Entities.{version_of, entity_members, entity_data, page_data, entity_json, page_json};
 ghost use Rattle.tab_json.specs.Objects.{object_of};
 
-use crate::members::{entity_members, put_metadata};
+use crate::members_written::{entity_members, put_metadata};
 use serde_json::{Map, Value as Json, push, put};
 use std::alloc::Global;
 use std::marker::Model;

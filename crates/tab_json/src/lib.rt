@@ -4,8 +4,8 @@
 mod bodies;
 mod entities;
 mod faults;
-mod meanings;
-mod members;
+mod members_read;
+mod members_written;
 mod tables;
 mod types;
 mod values;

@@ -5,7 +5,7 @@ ghost use Rattle.tab_json.specs.Objects.{object_of, with_members};
 ghost use Rattle.tab_json.specs.Tables.{table_name, table_data, tables_data, table_json, tables_json};
 
 use crate::JsonForm;
-use crate::members::put_metadata;
+use crate::members_written::put_metadata;
 use serde_json::{Map, Value as Json, push, put};
 use std::alloc::Global;
 use tab_edm::Memory as OutOfMemory;

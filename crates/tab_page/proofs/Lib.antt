@@ -1,9 +1,9 @@
 pub mod PageLaws
 pub mod TokenLaws
-pub mod KnownLaws
+pub mod QueryOptionLaws
 pub mod SelectLaws
 pub mod WindowRuns
-pub mod WalkLaws
+pub mod ScanLaws
 pub mod RowRuns
 pub mod PrefixLaws
 pub mod TopLaws

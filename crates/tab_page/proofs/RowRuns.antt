@@ -21,7 +21,7 @@ use Rattle.tab_filter.specs.Windows.{WindowView, has, below, lower_corner}
 use Rattle.tab_page.specs.declared.pages.Options.{Options}
 use Rattle.tab_page.specs.declared.pages.Page.{Page}
 use Rattle.tab_page.specs.Pages.{window, matches, key_at, later_key, corner, start_key, is_listed, listed, looked_at, prefix_length, most_looked_at, next_of, page_up_to, page_below}
-use Rattle.tab_page.specs.Walks.{is_within, rows_at, InOneRun, AreInOneRun}
+use Rattle.tab_page.specs.Scans.{is_within, rows_at, InOneRun, AreInOneRun}
 use Rattle.tab_page.proofs.WindowRuns.{IsRun, window_runs, no_gap, not_small_above, above_small, above_corner}
 
 -- ---- keys of one table

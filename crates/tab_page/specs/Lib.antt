@@ -1,6 +1,6 @@
 pub mod Pages
 pub mod Queries
-pub mod Known
+pub mod QueryOptions
 pub mod Tokens
-pub mod Walks
+pub mod Scans
 pub mod Prefixes

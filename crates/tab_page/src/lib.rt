@@ -2,15 +2,15 @@
 //! next one begins.
 #![tactic(auto)]
 
-mod known;
+mod query_options;
 mod pages;
 mod queries;
-mod rule;
+mod page_rule;
 mod selects;
 mod tokens;
 
 pub use pages::{Options, Page, PageRows};
 pub use queries::{OptionRefused, read_top, top_is_a_decimal};
-pub use rule::{page, page_prefix, start_key};
+pub use page_rule::{page, page_prefix, start_key};
 pub use selects::{Names, Select};
 pub use tokens::{Token, TokenRefused, tokens_have_one_spelling};

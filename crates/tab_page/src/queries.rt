@@ -1,9 +1,9 @@
 ghost use Rattle.std.specs.Prelude.{◌≡◌, ◌≢◌, ◌≤◌, Ok, Err, IfOk, IfSome, MatchResult};
 ghost use Rattle.std.specs.Cow.{cow_str_bytes};
 ghost use Rattle.tab_page.specs.Queries.{read_options, read_select, decoded, read_top, with_digit, with_digits, top_of, token_of, row_of, start_of, filter_of, select_of, options_of, ReadsDecimals};
-ghost use Rattle.tab_page.specs.Known.{text_of};
+ghost use Rattle.tab_page.specs.QueryOptions.{text_of};
 
-use crate::known::known_options;
+use crate::query_options::options_in;
 use crate::{Options, Select, Token, TokenRefused};
 use form_urlencoded::decode;
 use std::alloc::Global;
@@ -30,14 +30,14 @@ pub enum OptionRefused {
 }
 
 impl Options {
-    #[tactic(auto, unfolding(crate::specs::Queries::read_options, crate::specs::Known::known_of))]
+    #[tactic(auto, unfolding(crate::specs::Queries::read_options, crate::specs::QueryOptions::options_in))]
     /// What the query of an address asks for.
     pub fn read(alloc: Global, query: &str) -> Result<Options, OptionRefused>
         ensures { MatchResult result
             (λ options. read_options query.now ≡ Ok options)
             (λ why. why ≢ OptionRefused.Memory → read_options query.now ≡ Err why) }
     {
-        let Ok(known) = known_options(alloc, query.as_bytes()) else {
+        let Ok(known) = options_in(alloc, query.as_bytes()) else {
             return Err(OptionRefused::Memory);
         };
         let filter = known.filter.value()?;
@@ -50,14 +50,14 @@ impl Options {
 }
 
 impl Select {
-    #[tactic(auto, unfolding(crate::specs::Queries::read_select, crate::specs::Known::known_of))]
+    #[tactic(auto, unfolding(crate::specs::Queries::read_select, crate::specs::QueryOptions::options_in))]
     /// The properties that the query of an address asks for; its other options are not looked at.
     pub fn read(alloc: Global, query: &str) -> Result<Select, OptionRefused>
         ensures { MatchResult result
             (λ select. read_select query.now ≡ Ok select)
             (λ why. why ≢ OptionRefused.Memory → read_select query.now ≡ Err why) }
     {
-        let Ok(known) = known_options(alloc, query.as_bytes()) else {
+        let Ok(known) = options_in(alloc, query.as_bytes()) else {
             return Err(OptionRefused::Memory);
         };
         select_of(alloc, known.select.value()?)

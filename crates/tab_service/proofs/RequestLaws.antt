@@ -12,7 +12,7 @@ use Rattle.tab_ops.specs.declared.ops.Op.TheVariants.{Insert, Delete}
 use Rattle.tab_json.specs.declared.bodies.BodyEntity.{BodyEntity}
 use Rattle.tab_ops.specs.Groups.{ItemView, group_refusal, unless_refused as group_unless}
 use Rattle.tab_ops.specs.declared.groups.GroupRefused.{GroupRefused}
-use Rattle.tab_batch.specs.Refusals.{Answer, Gives}
+use Rattle.tab_batch.specs.Refusals.{Answer, IsBatchAnswer}
 use Rattle.tab_service.specs.Targets.{query_of}
 use Rattle.tab_service.specs.Signing.{signed_of}
 use Rattle.tab_service.specs.TableQueries.{unless_refused, table_window}
@@ -314,7 +314,7 @@ requests_are_in_form keys now message request is = come_in_form keys.account mes
 
 -- the bytes of a batch decide its answer
 abbrev pub HaveOneAnswer : Type 0
-HaveOneAnswer = (boundary bytes : List ℕ) (a b : Answer) → Gives boundary bytes a → Gives boundary bytes b → a ≡ b
+HaveOneAnswer = (boundary bytes : List ℕ) (a b : Answer) → IsBatchAnswer boundary bytes a → IsBatchAnswer boundary bytes b → a ≡ b
 
 one_read : HaveOneAnswer → (account : List ℕ) (minimal : Bool) (body : List ℕ) (boundary : Option (List ℕ)) (a b : Result Request Refused) → IsReadUnder account minimal body boundary a → IsReadUnder account minimal body boundary b → a ≡ b
 one_read law account minimal body None a b p q = p ∙ sym q

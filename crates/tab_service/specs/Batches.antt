@@ -4,12 +4,12 @@ use Rattle.tab_ops.specs.Groups.{ItemView, most_items, grouped}
 use Rattle.tab_ops.specs.declared.groups.GroupRefused.{GroupRefused}
 use Rattle.tab_ops.specs.declared.groups.GroupRefused.TheVariants.{Empty, TooMany, MixedPartitions, DoubledRow, Memory as NoMemoryForGroup}
 use Rattle.tab_page.specs.declared.selects.Select.TheVariants.{All}
-use Rattle.tab_history.specs.declared.exchanges.Ask.TheVariants.{Change}
+use Rattle.tab_history.specs.declared.asks.Ask.TheVariants.{Change}
 use Rattle.tab_http.specs.Headers.{first_value}
 use Rattle.tab_http.specs.declared.messages.Header.{Header}
 use Rattle.tab_http.specs.declared.messages.Message.{Message}
 use Rattle.tab_batch.specs.Boundaries.{boundary_of}
-use Rattle.tab_batch.specs.Refusals.{Answer, Gives}
+use Rattle.tab_batch.specs.Refusals.{Answer, IsBatchAnswer}
 use Rattle.tab_batch.specs.declared.refusals.BatchRefused.{BatchRefused}
 use Rattle.tab_batch.specs.declared.refusals.BatchRefused.TheVariants.{BadMultipart, BadPart, Memory as NoMemoryForParts}
 use Rattle.tab_service.specs.TableQueries.{unless_refused}
@@ -105,7 +105,7 @@ boundary_in headers = option_and_then boundary_of (first_value (codes "content-t
 -- what the body gives under this boundary makes the request
 abbrev pub IsReadUnder : List ℕ → Bool → List ℕ → Option (List ℕ) → Result Request Refused → Type 0
 IsReadUnder account minimal body None found = found ≡ Err (record { place = None; why = NoBoundary })
-IsReadUnder account minimal body (Some boundary) found = (answer : Answer) × Gives boundary body answer × (found ≡ batch_request account minimal answer)
+IsReadUnder account minimal body (Some boundary) found = (answer : Answer) × IsBatchAnswer boundary body answer × (found ≡ batch_request account minimal answer)
 
 -- the request of a batch, or its first refusal
 unfoldable pub IsBatchOf : List ℕ → Bool → Message → Result Request Refused → Type 0

@@ -1,8 +1,8 @@
 -- The requests that messages come to, and the forms of their parts.
 use Rattle.std.specs.Prelude.{◌≡◌, ℕ, List, [], ◌∷◌, Bool, true, false, ⊤}
 use Rattle.tab_ops.specs.Groups.{ItemView}
-use Rattle.tab_history.specs.declared.exchanges.Ask.{Ask}
-use Rattle.tab_history.specs.declared.exchanges.Ask.TheVariants.{Create, Drop as Dropping, Tables as Listing, Get, Page, Change}
+use Rattle.tab_history.specs.declared.asks.Ask.{Ask}
+use Rattle.tab_history.specs.declared.asks.Ask.TheVariants.{Create, Drop as Dropping, Tables as Listing, Get, Page, Change}
 use Rattle.tab_json.specs.declared.entities.JsonForm.{JsonForm}
 use Rattle.tab_service.specs.Requests.{is_insert, is_delete}
 use Rattle.tab_service.specs.declared.forms.Form.{Form}

@@ -14,10 +14,10 @@ use Rattle.tab_ops.specs.declared.groups.OpRefused.{OpRefused}
 use Rattle.tab_ops.specs.declared.groups.OpRefused.TheVariants.{AlreadyThere, NotThere, Condition, TooMany, TooLarge, Memory as NoMemory}
 use Rattle.tab_history.specs.declared.entries.Denied.{Denied as Why}
 use Rattle.tab_history.specs.declared.entries.Denied.TheVariants.{NoTable, TableThere, NotFound, Op, TimeSpent, IdsSpent, Memory}
-use Rattle.tab_history.specs.declared.exchanges.Ask.{Ask}
-use Rattle.tab_history.specs.declared.exchanges.Ask.TheVariants.{Create, Drop as Dropping, Tables as Listing, Get, Page, Change}
-use Rattle.tab_history.specs.declared.exchanges.Reply.{Reply}
-use Rattle.tab_history.specs.declared.exchanges.Reply.TheVariants.{Found, Listed, Changed, Made, Dropped, Tables, Denied}
+use Rattle.tab_history.specs.declared.asks.Ask.{Ask}
+use Rattle.tab_history.specs.declared.asks.Ask.TheVariants.{Create, Drop as Dropping, Tables as Listing, Get, Page, Change}
+use Rattle.tab_history.specs.declared.asks.Reply.{Reply}
+use Rattle.tab_history.specs.declared.asks.Reply.TheVariants.{Found, Listed, Changed, Made, Dropped, Tables, Denied}
 use Rattle.tab_json.specs.Entities.{VersionView, version_of, entity_json, page_json}
 use Rattle.tab_json.specs.Faults.{fault_json}
 use Rattle.tab_json.specs.Tables.{table_json, tables_json}

@@ -14,7 +14,7 @@ use Rattle.tab_ops.specs.Groups.{ItemView}
 use Rattle.tab_ops.specs.declared.ops.Match.{Match}
 use Rattle.tab_ops.specs.declared.ops.Op.{Op}
 use Rattle.tab_ops.specs.declared.ops.Op.TheVariants.{Insert, Update, Replace, Merge, MergeIn, Delete}
-use Rattle.tab_history.specs.declared.exchanges.Ask.TheVariants.{Create, Drop as Dropping, Tables as Listing, Get, Page, Change}
+use Rattle.tab_history.specs.declared.asks.Ask.TheVariants.{Create, Drop as Dropping, Tables as Listing, Get, Page, Change}
 use Rattle.tab_http.specs.declared.messages.Header.{Header}
 use Rattle.tab_http.specs.declared.messages.Message.{Message}
 use Rattle.tab_json.specs.Bodies.{entity_body, table_body}

@@ -19,7 +19,7 @@ use crate::writes::{change_in_rows, change_of_row, single};
 use crate::{Refusal, ReplyBytes, Request};
 use std::alloc::Global;
 use tab_auth::{AuthRefused, Keys, Signed, check};
-use tab_batch::one_answer;
+use tab_batch::a_batch_has_one_answer;
 use tab_http::Message;
 use tab_keys::{KeyText, Memory, TableName};
 
@@ -69,7 +69,7 @@ pub fn messages_have_one_decision()
     ensures { (keys : Keys) (now : ℕ) (message : Message) (a b : Decided)
         → IsDecision keys now message a → IsDecision keys now message b → a ≡ b }
 {
-    one_answer();
+    a_batch_has_one_answer();
 }
 
 fn answered(alloc: Global, found: Result<Request, Refused>) -> Result<Decided, Memory>

@@ -1,7 +1,0 @@
-use Rattle.std.proofs.Common.{ap, sym, ◌∙◌}
-use Rattle.tab_page.specs.Known.{with_pairs}
-use Rattle.tab_page.proofs.KnownLaws.{all_pairs}
-use Rattle.tab_page.proofs.known.known_options.Goals as goal
-
-pub returns : goal.returns
-returns c = sym (ap (with_pairs _) c.in-None.ensures.steps.0) ∙ (c.loop-name.invariant ∙ all_pairs c.args.query.now)
