@@ -64,8 +64,8 @@ same_parts r ps qs p q = same ps qs (sym p ∙ q)
     same : (xs ys : List (List ℕ)) → ◌≡◌ {A = Result (List (List ℕ)) ℕ} (Ok xs) (Ok ys) → xs ≡ ys
     same xs ys is = cc
 
-same_places : (r : Result (List (List ℕ)) ℕ) (i j : ℕ) → r ≡ Err i → r ≡ Err j → i ≡ j
-same_places r i j p q = same i j (sym p ∙ q)
+same_offsets : (r : Result (List (List ℕ)) ℕ) (i j : ℕ) → r ≡ Err i → r ≡ Err j → i ≡ j
+same_offsets r i j p q = same i j (sym p ∙ q)
   where
     same : (x y : ℕ) → ◌≡◌ {A = Result (List (List ℕ)) ℕ} (Err x) (Err y) → x ≡ y
     same x y is = cc
@@ -82,7 +82,7 @@ read_or_bad r ps qs messages i p q are bad =
     no_bad bad.front bad.part bad.more messages (subst (λ (xs : List (List ℕ)). AreRequests xs messages) (same_parts r ps qs p q ∙ bad.are) are) bad.bad
 
 same_refusal : (boundary bytes : List ℕ) (a b : BatchRefused) → IsBatchAnswer boundary bytes (Err a) → IsBatchAnswer boundary bytes (Err b) → a ≡ b
-same_refusal boundary bytes (BadMultipart i) (BadMultipart j) p q = ap BadMultipart (same_places (requests_of boundary bytes) i j p.1 q.1)
+same_refusal boundary bytes (BadMultipart i) (BadMultipart j) p q = ap BadMultipart (same_offsets (requests_of boundary bytes) i j p.1 q.1)
 same_refusal boundary bytes (BadMultipart i) (BadPart j) p q = absurd (either_way (requests_of boundary bytes) q.1.0 i q.1.1 p.1)
 same_refusal boundary bytes (BadPart i) (BadMultipart j) p q = absurd (either_way (requests_of boundary bytes) p.1.0 j p.1.1 q.1)
 same_refusal boundary bytes (BadPart i) (BadPart j) p q =

@@ -28,7 +28,7 @@ unfolding cut_lines
 whole_line [] some none = absurd (omega arith)
 whole_line (b ∷ bs) some none = rw (take-length (b ∷ bs), drop-length (b ∷ bs)) (only_line b bs none)
 
--- ---- places
+-- ---- offsets
 
 pub no_lines : (bytes : List ℕ) (at : ℕ) → true ≡ (length (drop at bytes) == 0) → lines_at at (drop at bytes) ≡ []
 unfolding lines_at cut_lines
@@ -38,7 +38,7 @@ no_lines bytes at none = rw (no_elements (drop at bytes) none) refl
     no_elements [] e = refl
     no_elements (x ∷ xs) e = absurd (grind (arith, nat_tests))
 
--- the first of the lines from a place on, and those behind it
+-- the first of the lines from an offset on, and those behind it
 pub next_line : (bytes : List ℕ) (at size : ℕ) (text : List ℕ) → cut_lines (drop at bytes) ≡ take size (drop at bytes) ∷ cut_lines (drop size (drop at bytes)) → size ≤ length (drop at bytes)
     → text ≡ without_end (take size (drop at bytes))
     → lines_at at (drop at bytes) ≡ record { start = at; text = text; next = at + size } ∷ lines_at (at + size) (drop (at + size) bytes)

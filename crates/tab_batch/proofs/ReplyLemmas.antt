@@ -61,9 +61,9 @@ cut_both (c ∷ reply) more =
     by_test true is rest more = rw is (ap (λ (ls : List (List ℕ)). (c ∷ []) ∷ ls) rest)
     by_test false is rest more = rw is more
 
--- ---- places
+-- ---- offsets
 
--- the place behind the lines
+-- the offset behind the lines
 abbrev pub behind_lines : ℕ → List (List ℕ) → ℕ
 behind_lines at [] = at
 behind_lines at (l ∷ ls) = behind_lines (at + length l) ls
@@ -92,18 +92,18 @@ pub end_dropped : (text : List ℕ) → without_end (line text) ≡ text
 unfolding without_end
 end_dropped text = rw (reverse-append text line_end) (reverse-reverse text)
 
-end_of_last : (at place : ℕ) (before : List (List ℕ)) (last : List ℕ) → text_end place (placed at (before ++ line last ∷ [])) ≡ behind_lines at before + length last
-end_of_last at place [] last = ap (λ (t : List ℕ). at + length t) (end_dropped last)
-end_of_last at place (b ∷ before) last = end_of_last (at + length b) (at + length (without_end b)) before last
+end_of_last : (at end : ℕ) (before : List (List ℕ)) (last : List ℕ) → text_end end (placed at (before ++ line last ∷ [])) ≡ behind_lines at before + length last
+end_of_last at end [] last = ap (λ (t : List ℕ). at + length t) (end_dropped last)
+end_of_last at end (b ∷ before) last = end_of_last (at + length b) (at + length (without_end b)) before last
 
 -- the text of a reply's lines ends where the reply does
-pub reply_end : (at place : ℕ) (reply : List ℕ) → text_end place (placed at (cut_lines (line reply))) ≡ at + length reply
-reply_end at place reply =
+pub reply_end : (at end : ℕ) (reply : List ℕ) → text_end end (placed at (cut_lines (line reply))) ≡ at + length reply
+reply_end at end reply =
     let last = last_line reply in
     let whole = sym (behind_cut at (line reply)) ∙ ap (behind_lines at) last.cut ∙ behind_both at last.before (line last.last ∷ []) in
     let size = length-append reply line_end in
     let last_size = length-append last.last line_end in
-    ap (λ (ls : List (List ℕ)). text_end place (placed at ls)) last.cut ∙ end_of_last at place last.before last.last ∙ omega (arith, whole, size, last_size)
+    ap (λ (ls : List (List ℕ)). text_end end (placed at ls)) last.cut ∙ end_of_last at end last.before last.last ∙ omega (arith, whole, size, last_size)
 
 -- ---- the lines of the text
 
@@ -315,7 +315,7 @@ body_found size replies plain =
     ∙ ap (λ (ls : List LineView). requests_at size (blocks_of inner_boundary ls).marked) front
     ∙ set_found size set_start replies plain
 
--- ---- the replies between the places
+-- ---- the replies between the offsets
 
 middle : (front text more : List ℕ) (start : ℕ) → start ≡ length front → slice_range (front ++ (text ++ more)) start (start + length text) ≡ text
 middle front text more start is =
@@ -327,11 +327,11 @@ unfolding part_head
 starts at front is = omega (arith, length-append front part_head, is)
 
 cut_again : (whole front : List ℕ) (at : ℕ) (replies : List (List ℕ)) → whole ≡ front ++ (flat_map part_text replies ++ ending) → at ≡ length front → map (between whole) (spans_at at replies) ≡ replies
-cut_again whole front at [] is place = refl
-cut_again whole front at (reply ∷ replies) is place =
+cut_again whole front at [] is begun = refl
+cut_again whole front at (reply ∷ replies) is begun =
     let more = flat_map part_text replies ++ ending in
     let start = text_start at in
-    let begins = starts at front place in
+    let begins = starts at front begun in
     let split : whole ≡ (front ++ part_head) ++ (line reply ++ more) = is ∙ ap (λ (xs : List ℕ). front ++ xs) (one_first reply replies) ∙ sym (append_assoc front part_head (line reply ++ more)) in
     let here : whole ≡ (front ++ part_head) ++ (reply ++ (line_end ++ more)) = split ∙ ap (λ (xs : List ℕ). (front ++ part_head) ++ xs) (append_assoc reply line_end more) in
     let behind : whole ≡ ((front ++ part_head) ++ line reply) ++ more = split ∙ sym (append_assoc (front ++ part_head) (line reply) more) in

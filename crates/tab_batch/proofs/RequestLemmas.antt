@@ -10,7 +10,7 @@ use Rattle.tab_http.specs.Heads.{BeginsWithHead, HasNoHead, HasParts, IsHead}
 use Rattle.tab_http.specs.Messages.{message_of}
 use Rattle.tab_http.specs.declared.heads.Head.{Head}
 use Rattle.tab_http.specs.declared.messages.Message.{Message}
-use Rattle.tab_batch.specs.Requests.{ending, is_path, place_on_web, target_of, IsRequest, IsNoRequest}
+use Rattle.tab_batch.specs.Requests.{ending, is_path, target_on_web, target_of, IsRequest, IsNoRequest}
 use Rattle.url.specs.Parser.{parse_url}
 
 -- ---- heads
@@ -52,11 +52,11 @@ body_is part h head body parts is = is ∙ ap (λ (n : ℕ). drop n part) parts.
 
 path_is : (target : List ℕ) → true ≡ is_path target → target_of target ≡ Some target
 unfolding target_of
-path_is target is = ap (λ v. cond v (Some target) (place_on_web (parse_url None target))) (sym is)
+path_is target is = ap (λ v. cond v (Some target) (target_on_web (parse_url None target))) (sym is)
 
-address_is : (target : List ℕ) → false ≡ is_path target → target_of target ≡ place_on_web (parse_url None target)
+address_is : (target : List ℕ) → false ≡ is_path target → target_of target ≡ target_on_web (parse_url None target)
 unfolding target_of
-address_is target is = ap (λ v. cond v (Some target) (place_on_web (parse_url None target))) (sym is)
+address_is target is = ap (λ v. cond v (Some target) (target_on_web (parse_url None target))) (sym is)
 
 -- the request of a path
 pub at_path : (part : List ℕ) (h : RequestHead) (rest : List ℕ) (head : Head) (body : List ℕ) (message : Message) → BeginsWithHead (part ++ ending) h rest → HasParts h head
@@ -72,24 +72,24 @@ at_path part h rest head body message begins parts whole is path = record {
 
 -- the request of an address
 pub at_address : (part : List ℕ) (h : RequestHead) (rest : List ℕ) (head : Head) (body target : List ℕ) (message : Message) → BeginsWithHead (part ++ ending) h rest → HasParts h head
-    → body ≡ drop head.len part → message ≡ message_of h body → false ≡ is_path message.target → Some target ≡ place_on_web (parse_url None message.target)
+    → body ≡ drop head.len part → message ≡ message_of h body → false ≡ is_path message.target → Some target ≡ target_on_web (parse_url None message.target)
     → IsRequest part (record message { target = target })
 at_address part h rest head body target message begins parts whole is path found = record {
   h = h;
   rest = rest;
   begins = begins;
   target = target;
-  named = address_is h.target (path ∙ ap (λ (m : Message). is_path m.target) is) ∙ sym (found ∙ ap (λ (m : Message). place_on_web (parse_url None m.target)) is);
+  named = address_is h.target (path ∙ ap (λ (m : Message). is_path m.target) is) ∙ sym (found ∙ ap (λ (m : Message). target_on_web (parse_url None m.target)) is);
   is = ap (λ (m : Message). record m { target = target }) (is ∙ ap (message_of h) (body_is part h head body parts whole));
 }
 
 -- an address that is none of the web makes no request
 pub nowhere : (part : List ℕ) (h : RequestHead) (rest : List ℕ) (body : List ℕ) (message : Message) → BeginsWithHead (part ++ ending) h rest → message ≡ message_of h body
-    → false ≡ is_path message.target → None ≡ place_on_web (parse_url None message.target) → IsNoRequest part
+    → false ≡ is_path message.target → None ≡ target_on_web (parse_url None message.target) → IsNoRequest part
 nowhere part h rest body message begins is path none other request =
     let same = request_unique (part ++ ending) request.h h request.rest rest request.begins.reads begins.reads in
     let named : target_of h.target ≡ Some request.target = ap (λ (g : RequestHead). target_of g.target) (sym same.0) ∙ request.named in
-    let unnamed : target_of h.target ≡ None = address_is h.target (path ∙ ap (λ (m : Message). is_path m.target) is) ∙ sym (none ∙ ap (λ (m : Message). place_on_web (parse_url None m.target)) is) in
+    let unnamed : target_of h.target ≡ None = address_is h.target (path ∙ ap (λ (m : Message). is_path m.target) is) ∙ sym (none ∙ ap (λ (m : Message). target_on_web (parse_url None m.target)) is) in
     differ request.target (sym named ∙ unnamed)
   where
     differ : (t : List ℕ) → ◌≡◌ {A = Option (List ℕ)} (Some t) None → ⊥

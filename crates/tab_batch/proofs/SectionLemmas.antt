@@ -1,4 +1,4 @@
--- Spans that lie before a place lie before each later one.
+-- Spans that lie before an offset lie before each later one.
 use Rattle.std.proofs.Common.{ℕ, ◌≤◌, List, arith}
 use Rattle.std.specs.Prelude.{All}
 use Rattle.std.proofs.lemmas.List.Elements.{All-weaker}

@@ -1,4 +1,4 @@
--- The lines of a text, with their places (RFC 2046, section 5.1.1, where an end may also be a line feed alone).
+-- The lines of a text, with their offsets (RFC 2046, section 5.1.1, where an end may also be a line feed alone).
 use Rattle.std.specs.Prelude.{ℕ, ◌+◌, List, [], ◌∷◌, length, reverse, ◌==◌, if◌then◌else◌}
 
 -- where a line begins, its text without its end, and where the next line begins
@@ -31,16 +31,16 @@ behind_feed (b ∷ bytes) = if b == 10 then behind_return bytes else b ∷ bytes
 unfoldable pub without_end : List ℕ → List ℕ
 without_end line = reverse (behind_feed (reverse line))
 
--- the lines, of which the first begins at the place
+-- the lines, of which the first begins at the offset
 abbrev pub placed : ℕ → List (List ℕ) → List LineView
 placed at [] = []
 placed at (line ∷ lines) = record { start = at; text = without_end line; next = at + length line } ∷ placed (at + length line) lines
 
--- the lines of the bytes, which begin at the place
+-- the lines of the bytes, which begin at the offset
 unfoldable pub lines_at : ℕ → List ℕ → List LineView
 lines_at at bytes = placed at (cut_lines bytes)
 
--- where the text of the last line ends, or the place where there is no line
+-- where the text of the last line ends, or the offset where there is no line
 abbrev pub text_end : ℕ → List LineView → ℕ
 text_end at [] = at
 text_end at (line ∷ lines) = text_end (line.start + length line.text) lines

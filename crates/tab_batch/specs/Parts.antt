@@ -5,7 +5,7 @@ use Rattle.tab_batch.specs.Marks.{Block, by_mark, blocks_of}
 use Rattle.tab_batch.specs.Boundaries.{behind_word, boundary_of}
 use Rattle.tab_batch.specs.declared.byte_ranges.ByteRange.{ByteRange}
 
--- where the requests stand, or the place of the line that breaks a rule
+-- where the requests stand, or the offset of the line that breaks a rule
 abbrev pub Found : Type 0
 Found = Result (List ByteRange) ℕ
 
@@ -81,7 +81,7 @@ body_at size (block ∷ blocks) = by_mark block.mark (only_part size blocks (fro
 unfoldable pub ranges_of : List ℕ → List ℕ → Found
 ranges_of boundary bytes = body_at (length bytes) (blocks_of boundary (lines_at 0 bytes)).marked
 
--- the bytes between two places
+-- the bytes between two offsets
 abbrev pub between : List ℕ → ByteRange → List ℕ
 between bytes range = slice_range bytes range.start range.end
 
@@ -89,6 +89,6 @@ abbrev pub cut_out : List ℕ → Found → Result (List (List ℕ)) ℕ
 cut_out bytes (Err at) = Err at
 cut_out bytes (Ok ranges) = Ok (map (between bytes) ranges)
 
--- the bytes of each request of the batch, or the place of the line that breaks a rule
+-- the bytes of each request of the batch, or the offset of the line that breaks a rule
 abbrev pub requests_of : List ℕ → List ℕ → Result (List (List ℕ)) ℕ
 requests_of boundary bytes = cut_out bytes (ranges_of boundary bytes)

@@ -17,11 +17,11 @@ use Rattle.tab_batch.specs.declared.byte_ranges.ByteRange.{ByteRange}
 abbrev pub seen : BodyLine → LineView
 seen line = record { start = line.start; text = line.text.now; next = line.next }
 
--- the lines from the place on
+-- the lines from the offset on
 abbrev pub lines_from : List ℕ → ℕ → List LineView
 lines_from bytes at = lines_at at (drop at bytes)
 
--- the blocks of the lines from the place on
+-- the blocks of the lines from the offset on
 abbrev pub blocks_from : List ℕ → List ℕ → ℕ → Blocks
 blocks_from boundary bytes at = blocks_of boundary (lines_from bytes at)
 
@@ -44,7 +44,7 @@ abbrev pub behind_those : List ByteRange → Found → Found
 behind_those ranges (Err at) = Err at
 behind_those ranges (Ok more) = Ok (ranges ++ more)
 
--- a change set from the place on to which its reading has come
+-- a change set from the state to which its reading has come
 abbrev pub from_state : ℕ → ChangeSetState → Blocks → Found
 from_state size Before blocks = requests_at size blocks.marked
 from_state size Head blocks = with_request (request_at (next_mark size blocks.marked) (from_first is_empty blocks.front)) (requests_at size blocks.marked)
@@ -57,34 +57,34 @@ from_state size (Broken at) blocks = Err at
 -- the requests that end with the mark
 abbrev pub behind_ended : ChangeSetState → Option Mark → Found → Found
 behind_ended (Text range) (Some mark) more = with_request (Ok range) more
-behind_ended place mark more = more
+behind_ended state mark more = more
 
 -- a change set from where its reading has come
 abbrev pub from_section : ℕ → List ByteRange → ChangeSetState → Blocks → Found
-from_section size ranges place blocks = behind_those ranges (from_state size place blocks)
+from_section size ranges state blocks = behind_those ranges (from_state size state blocks)
 
 abbrev pub no_blocks : Blocks
 no_blocks = record { front = []; marked = [] }
 
 -- the body within its change set
 abbrev pub in_change_set : List ℕ → List ℕ → List ℕ → List ByteRange → ChangeSetState → ℕ → Found
-in_change_set boundary bytes inner ranges place at = let blocks = blocks_from boundary bytes at in
-    when_closed (length bytes) blocks.marked (from_section (length bytes) ranges place (blocks_of inner blocks.front))
+in_change_set boundary bytes inner ranges state at = let blocks = blocks_from boundary bytes at in
+    when_closed (length bytes) blocks.marked (from_section (length bytes) ranges state (blocks_of inner blocks.front))
 
--- ---- places within the bytes
+-- ---- offsets within the bytes
 
--- a range before the place
+-- a range before the offset
 pub record IsBelow (at : ℕ) (range : ByteRange) : Type 0 where
   pub ordered : range.start ≤ range.end
   pub below : range.end ≤ at
 
 abbrev pub StateBelow : ℕ → ChangeSetState → Type 0
 StateBelow at (Text range) = IsBelow at range
-StateBelow at place = ⊤
+StateBelow at state = ⊤
 
 pub record SectionBelow (at : ℕ) (section : Section) : Type 0 where
   pub ranges : All (IsBelow at) section.ranges.items
-  pub place : StateBelow at section.place
+  pub state : StateBelow at section.state
 
 -- where reading is behind a mark
 abbrev pub state_behind : Mark → ChangeSetState

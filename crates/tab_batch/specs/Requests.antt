@@ -21,9 +21,9 @@ abbrev pub is_web : List ℕ → Bool
 is_web scheme = bytes_eq scheme (codes "http") || bytes_eq scheme (codes "https")
 
 -- the path and the query of an address of the web
-abbrev pub place_on_web : Parsed Parts → Option (List ℕ)
-place_on_web (Err e) = None
-place_on_web (Ok url) = if is_web url.scheme then Some (with_query url.path url.query) else None
+abbrev pub target_on_web : Parsed Parts → Option (List ℕ)
+target_on_web (Err e) = None
+target_on_web (Ok url) = if is_web url.scheme then Some (with_query url.path url.query) else None
 
 -- a path begins with a slash, which is 47
 abbrev pub is_path : List ℕ → Bool
@@ -32,7 +32,7 @@ is_path (b ∷ target) = b == 47
 
 -- the path and the query that a target names
 unfoldable pub target_of : List ℕ → Option (List ℕ)
-target_of target = if is_path target then Some target else place_on_web (parse_url None target)
+target_of target = if is_path target then Some target else target_on_web (parse_url None target)
 
 -- ---- requests
 

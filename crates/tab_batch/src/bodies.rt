@@ -23,7 +23,7 @@ pub fn ranges_of(alloc: Global, boundary: &[u8], bytes: &[u8]) -> Result<Vec<Byt
     read_change_set(alloc, boundary, bytes, inner, set)
 }
 
-/// The place behind the first delimiter.
+/// The offset behind the first delimiter.
 fn behind_delimiter(boundary: &[u8], bytes: &[u8]) -> Result<usize, BatchRefused>
     ensures found { IfOk result (λ at. ranges_of boundary.now bytes.now ≡ in_head boundary.now bytes.now at) }
     ensures refused { IfErr result (Tells (ranges_of boundary.now bytes.now)) }
@@ -40,7 +40,7 @@ fn behind_delimiter(boundary: &[u8], bytes: &[u8]) -> Result<usize, BatchRefused
     Err(BatchRefused::BadMultipart { at: bytes.len() })
 }
 
-/// The boundary of the change set, by the head that begins there, and the place behind the line that gives it.
+/// The boundary of the change set, by the head that begins there, and the offset behind the line that gives it.
 fn inner_boundary<'b>(
     boundary: &[u8],
     bytes: &'b [u8],
@@ -67,7 +67,7 @@ fn inner_boundary<'b>(
     Err(BatchRefused::BadMultipart { at: bytes.len() })
 }
 
-/// The place behind the empty line that ends the head in which the place is.
+/// The offset behind the empty line that ends the head in which the offset is.
 fn behind_head(boundary: &[u8], bytes: &[u8], start: usize) -> Result<usize, BatchRefused>
     requires { start ≤ length bytes.now }
     ensures found { IfOk result (λ at. (inner : List ℕ) → in_typed_head boundary.now bytes.now inner start ≡ in_change_set boundary.now bytes.now inner [] Before at) }

@@ -13,7 +13,7 @@ pub struct BodyLine<'b> {
     pub next: usize,
 }
 
-/// The line at that place, if there is one.
+/// The line at that offset, if there is one.
 pub fn line_at(bytes: &[u8], at: usize) -> Option<BodyLine<'_>>
     requires { at ≤ length bytes.now }
     ensures cases { MatchOption result (lines_from bytes.now at ≡ []) (λ line. lines_from bytes.now at ≡ seen line ∷ lines_from bytes.now line.next) }
@@ -39,7 +39,7 @@ fn line_size(bytes: &[u8]) -> usize
     ensures within { result ≤ length bytes.now }
 {
     match bytes.iter().position(|byte| *byte == b'\n') {
-        Some(place) => place + 1,
+        Some(index) => index + 1,
         None => bytes.len(),
     }
 }

@@ -10,7 +10,7 @@ pub struct Memory;
 /// Why the requests of a batch were not read.
 #[derive(Clone, Copy, Debug, PartialEq, Eq)]
 pub enum BatchRefused {
-    /// The line at this place breaks a rule of multipart bodies, or a closing line is missing, and this is the length.
+    /// The line at this offset breaks a rule of multipart bodies, or a closing line is missing, and this is the length.
     BadMultipart { at: usize },
     /// That part, counted from 0, is no request.
     BadPart { index: usize },

@@ -1,7 +1,7 @@
 ghost use Rattle.std.specs.Prelude.{◌≡◌, ℕ, ◌++◌, List, drop, None, IfOk, MatchOption, string_bytes};
 ghost use Rattle.std.specs.Option.{option_copied};
 ghost use Rattle.httparse.specs.Grammar.{RequestHead};
-ghost use Rattle.tab_batch.specs.Requests.{IsRequest, IsNoRequest, ending, is_path, is_web, place_on_web, with_query};
+ghost use Rattle.tab_batch.specs.Requests.{IsRequest, IsNoRequest, ending, is_path, is_web, target_on_web, with_query};
 ghost use Rattle.tab_http.specs.Heads.{BeginsWithHead, HasNoHead, HasParts};
 ghost use Rattle.url.specs.Parser.{parse_url};
 
@@ -22,7 +22,7 @@ pub fn read_request(alloc: Global, part: &[u8]) -> Result<Option<Message>, Memor
     if is_path(message.target.as_str()) {
         return Ok(Some(message));
     }
-    let Some(target) = place_on_web(alloc, message.target.as_str())? else {
+    let Some(target) = target_on_web(alloc, message.target.as_str())? else {
         return Ok(None);
     };
     message.target = target;
@@ -64,8 +64,8 @@ fn is_path(target: &str) -> bool
 }
 
 /// The path and the query of an address of the web.
-fn place_on_web(alloc: Global, address: &str) -> Result<Option<Text>, Memory>
-    ensures { IfOk result (λ found. found ≡ place_on_web (parse_url None address.now)) }
+fn target_on_web(alloc: Global, address: &str) -> Result<Option<Text>, Memory>
+    ensures { IfOk result (λ found. found ≡ target_on_web (parse_url None address.now)) }
 {
     match Url::parse(alloc, address) {
         Ok(url) => {

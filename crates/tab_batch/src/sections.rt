@@ -21,25 +21,25 @@ pub enum ChangeSetState {
     Text(ByteRange),
     /// Behind its closing line.
     Closed,
-    /// Behind a line that breaks a rule, at this place.
+    /// Behind a line that breaks a rule, at this offset.
     Broken(usize),
 }
 
 /// A change set as its lines are read.
 #[derive(Drop)]
 pub struct Section {
-    place: ChangeSetState,
+    state: ChangeSetState,
     /// Where the requests stand of the parts that have ended.
     ranges: Vec<ByteRange>,
 }
 
 impl Section {
     pub fn new(alloc: Global) -> Section
-        ensures place { result.place ≡ Before }
+        ensures state { result.state ≡ Before }
         ensures ranges { result.ranges.items ≡ [] }
     {
         Section {
-            place: ChangeSetState::Before,
+            state: ChangeSetState::Before,
             ranges: Vec::new(alloc),
         }
     }
@@ -48,24 +48,24 @@ impl Section {
     pub fn take(&mut self, mark: Option<Mark>, line: BodyLine<'_>) -> Result<(), Memory>
         requires below { SectionBelow line.start self.old }
         requires inside { line.start + length line.text.now ≤ line.next }
-        ensures goes_on { OnOk result ((size : ℕ) (blocks : Blocks) → from_section size self.old.ranges.items self.old.place (add_line (seen line.entry) mark blocks) ≡ from_section size self.new.ranges.items self.new.place blocks) }
+        ensures goes_on { OnOk result ((size : ℕ) (blocks : Blocks) → from_section size self.old.ranges.items self.old.state (add_line (seen line.entry) mark blocks) ≡ from_section size self.new.ranges.items self.new.state blocks) }
         ensures below { OnOk result (SectionBelow line.entry.next self.new) }
     {
         self.end_request(mark)?;
-        self.place = self.place.behind(mark, line);
+        self.state = self.state.behind(mark, line);
         Ok(())
     }
 
     /// Keeps the request that ends with the mark.
     fn end_request(&mut self, mark: Option<Mark>) -> Result<(), Memory>
-        ensures place { self.new.place ≡ self.old.place }
-        ensures ended { OnOk result ((more : Found) → behind_those self.new.ranges.items more ≡ behind_those self.old.ranges.items (behind_ended self.old.place mark more)) }
+        ensures state { self.new.state ≡ self.old.state }
+        ensures ended { OnOk result ((more : Found) → behind_those self.new.ranges.items more ≡ behind_those self.old.ranges.items (behind_ended self.old.state mark more)) }
         ensures below { OnOk result ((at : ℕ) → SectionBelow at self.old → SectionBelow at self.new) }
     {
         if mark.is_none() {
             return Ok(());
         }
-        if let ChangeSetState::Text(range) = self.place {
+        if let ChangeSetState::Text(range) = self.state {
             self.ranges.push(range)?;
         }
         Ok(())
@@ -73,11 +73,11 @@ impl Section {
 
     /// The requests, where no more lines follow and the body has that size.
     pub fn finish(self, size: usize) -> Result<Vec<ByteRange>, BatchRefused>
-        ensures found { IfOk result (λ ranges. from_section size self.ranges.items self.place no_blocks ≡ Ok ranges.items) }
-        ensures refused { IfErr result (Tells (from_section size self.ranges.items self.place no_blocks)) }
+        ensures found { IfOk result (λ ranges. from_section size self.ranges.items self.state no_blocks ≡ Ok ranges.items) }
+        ensures refused { IfErr result (Tells (from_section size self.ranges.items self.state no_blocks)) }
         ensures kept { IfOk result (λ ranges. ranges.items ≡ self.ranges.items) }
     {
-        match self.place {
+        match self.state {
             ChangeSetState::Closed => Ok(self.ranges),
             ChangeSetState::Broken(at) => Err(BatchRefused::BadMultipart { at }),
             ChangeSetState::Before | ChangeSetState::Head | ChangeSetState::Text(_) => {
@@ -88,7 +88,7 @@ impl Section {
 }
 
 impl ChangeSetState {
-    /// The place behind one more line, with what it marks.
+    /// The state behind one more line, with what it marks.
     fn behind(self, mark: Option<Mark>, line: BodyLine<'_>) -> ChangeSetState
         requires below { StateBelow line.start self }
         requires inside { line.start + length line.text.now ≤ line.next }

@@ -18,29 +18,29 @@ use Rattle.tab_rows.specs.Rows.{RowView, AreRising, row_at}
 use Rattle.tab_rows.proofs.RowLaws.{All-row_at}
 use Rattle.tab_page.specs.Pages.{matches}
 use Rattle.tab_page.specs.declared.pages.Options.{Options}
-use Rattle.tab_page.proofs.OnePageLaws.{OnePage, page_of-one, place_lt as places_lt, place_of, start_place, key_lt_in_table}
+use Rattle.tab_page.proofs.OnePageLaws.{OnePage, page_of-one, pair_lt as pairs_lt, pair_of, start_pair, key_lt_in_table}
 use Rattle.tab_page.proofs.RisingLists.{AllPairs-append, All-from_each, Contains-here, Contains-there}
 use Rattle.tab_history.specs.World.{IsWorld, table_of}
 use Rattle.tab_history.specs.Legality.{State, after, after_all, Allows, Legal}
-use Rattle.tab_history.specs.Followed.{Asked, Leg, Query, resolve_of, page_entry, entries_from, entries_of, rows_from, GoesOn, IsFollowedFrom, at_first, IsUnwritten, place_lt, first_key, IsRight, AreRight, FollowedWell}
+use Rattle.tab_history.specs.Followed.{Asked, Leg, Query, resolve_of, page_entry, entries_from, entries_of, rows_from, GoesOn, IsFollowedFrom, at_first, IsUnwritten, pair_lt, first_key, IsRight, AreRight, FollowedWell}
 use Rattle.tab_history.specs.declared.entries.Entry.{Entry}
 use Rattle.tab_history.proofs.HistoryLaws.{Legal-parts, rising_after, each_append, unwritten_row, unwritten_name, table_of-folded}
 
--- ---- places
+-- ---- pairs
 
-pub place_total : IsTotalOrder (λ (a b : List ℕ × List ℕ). ordering_then (text_cmp a.0 b.0) (text_cmp a.1 b.1))
-place_total = then_total (on_total (λ (place : List ℕ × List ℕ). place.0) text_cmp_total) (on_total (λ (place : List ℕ × List ℕ). place.1) text_cmp_total)
+pub pair_total : IsTotalOrder (λ (a b : List ℕ × List ℕ). ordering_then (text_cmp a.0 b.0) (text_cmp a.1 b.1))
+pair_total = then_total (on_total (λ (pair : List ℕ × List ℕ). pair.0) text_cmp_total) (on_total (λ (pair : List ℕ × List ℕ). pair.1) text_cmp_total)
 
--- what is below a place is below all that is not below it
-below_across : (a place b : List ℕ × List ℕ) → places_lt a place ≡ true → places_lt b place ≡ false → places_lt a b ≡ true
-below_across = lt_to_le place_total
+-- what is below a pair is below all that is not below it
+below_across : (a pair b : List ℕ × List ℕ) → pairs_lt a pair ≡ true → pairs_lt b pair ≡ false → pairs_lt a b ≡ true
+below_across = lt_to_le pair_total
 
--- what is not below a place is not below all that the place is not below
-not_below_through : (a place b : List ℕ × List ℕ) → places_lt a place ≡ false → places_lt place b ≡ false → places_lt a b ≡ false
-not_below_through a place b h k = by_test (places_lt a b) refl
+-- what is not below a pair is not below all that the pair is not below
+not_below_through : (a pair b : List ℕ × List ℕ) → pairs_lt a pair ≡ false → pairs_lt pair b ≡ false → pairs_lt a b ≡ false
+not_below_through a pair b h k = by_test (pairs_lt a b) refl
   where
-    by_test : (t : Bool) → places_lt a b ≡ t → places_lt a b ≡ false
-    by_test true e = absurd (true≢false (sym (lt_from_le place_total place a b h e) ∙ k))
+    by_test : (t : Bool) → pairs_lt a b ≡ t → pairs_lt a b ≡ false
+    by_test true e = absurd (true≢false (sym (lt_from_le pair_total pair a b h e) ∙ k))
     by_test false e = e
 
 -- ---- rows that are looked up
@@ -83,12 +83,12 @@ page_one state asked rising allowed =
     subst (OnePage state.world.rows asked.table asked.options) (sym allowed.1) (page_of-one state.world.rows rising state.bounds asked.table asked.options)
 
 -- the next page begins at the token
-starts_at : (before : Asked) (leg : Leg) (go : GoesOn before leg) → start_place leg.asked.options ≡ go.token
-starts_at before leg go = ap start_place go.options
+starts_at : (before : Asked) (leg : Leg) (go : GoesOn before leg) → start_pair leg.asked.options ≡ go.token
+starts_at before leg go = ap start_pair go.options
 
 -- no row from a page on is below its start
 pub rows_start : (state : State) (asked : Asked) (legs : List Leg) → AreRising state.world.rows → Legal state (entries_from asked legs) → IsFollowedFrom asked legs
-    → (row : RowView) → Contains (rows_from asked legs) row → places_lt (place_of row.key) (start_place asked.options) ≡ false
+    → (row : RowView) → Contains (rows_from asked legs) row → pairs_lt (pair_of row.key) (start_pair asked.options) ≡ false
 rows_start state asked [] rising legal followed row within = (page_one state asked rising legal.0).from row within
 rows_start state asked (leg ∷ legs) rising legal followed row within =
     let one = page_one state asked rising legal.0 in
@@ -97,14 +97,14 @@ rows_start state asked (leg ∷ legs) rising legal followed row within =
     ⊎_elim
     (λ here. one.from row here)
     (λ later.
-    not_below_through (place_of row.key) go.token (start_place asked.options)
-    (subst (λ place. places_lt (place_of row.key) place ≡ false) (starts_at asked leg go)
+    not_below_through (pair_of row.key) go.token (start_pair asked.options)
+    (subst (λ pair. pairs_lt (pair_of row.key) pair ≡ false) (starts_at asked leg go)
     (rows_start (after_all (after state (page_entry asked)) leg.between) leg.asked legs (rising_after (after state (page_entry asked)) leg.between parts.0 rising) parts.1 followed.1 row later))
     (one.ahead go.token go.next))
     (Contains-append_cases asked.page.rows (rows_from leg.asked legs) row within)
 
 abbrev pub Rises : RowView → RowView → Type 0
-Rises a b = IsTrue (place_lt a.key b.key)
+Rises a b = IsTrue (pair_lt a.key b.key)
 
 pub rows_rise : (state : State) (asked : Asked) (legs : List Leg) → AreRising state.world.rows → Legal state (entries_from asked legs) → IsFollowedFrom asked legs → AllPairs Rises (rows_from asked legs)
 rows_rise state asked [] rising legal followed = (page_one state asked rising legal.0).rising
@@ -117,8 +117,8 @@ rows_rise state asked (leg ∷ legs) rising legal followed =
     (rows_rise (after_all (after state (page_entry asked)) leg.between) leg.asked legs later parts.1 followed.1)
     (All-from_each (λ row. All (Rises row) (rows_from leg.asked legs)) asked.page.rows
     (λ row here. All-from_each (Rises row) (rows_from leg.asked legs)
-    (λ other there. below_across (place_of row.key) go.token (place_of other.key) (one.below go.token go.next row here)
-    (subst (λ place. places_lt (place_of other.key) place ≡ false) (starts_at asked leg go)
+    (λ other there. below_across (pair_of row.key) go.token (pair_of other.key) (one.below go.token go.next row here)
+    (subst (λ pair. pairs_lt (pair_of other.key) pair ≡ false) (starts_at asked leg go)
     (rows_start (after_all (after state (page_entry asked)) leg.between) leg.asked legs later parts.1 followed.1 other there)))))
 
 page_right : (state : State) (asked : Asked) → AreRising state.world.rows → Allows state (page_entry asked) → IsRight state asked
@@ -145,7 +145,7 @@ looked_up key name state before leg go legal unwritten folds given =
 -- a row that the query asks for, from its start on, whose key is unwritten to the last page, is one of the rows
 pub rows_whole : (key : Key) (name : List ℕ) (row : RowView) (state : State) (asked : Asked) (legs : List Leg) → AreRising state.world.rows → Legal state (entries_from asked legs) → IsFollowedFrom asked legs
     → IsUnwritten key name (entries_from asked legs) → folded asked.name ≡ folded name → table_of state.world.names name ≡ Some asked.table
-    → row_at state.world.rows key ≡ Some row → row.key.table ≡ asked.table → matches asked.options row ≡ true → places_lt (place_of row.key) (start_place asked.options) ≡ false
+    → row_at state.world.rows key ≡ Some row → row.key.table ≡ asked.table → matches asked.options row ≡ true → pairs_lt (pair_of row.key) (start_pair asked.options) ≡ false
     → Contains (rows_from asked legs) row
 rows_whole key name row state asked [] rising legal followed unwritten folds given here table m from =
     let one = page_one state asked rising legal.0 in
@@ -169,7 +169,7 @@ rows_whole key name row state asked (leg ∷ legs) rising legal followed unwritt
     spared.1 (go.name ∙ folds) (unwritten_name key name paged leg.between (Some asked.table) parts.0 spared.0 given ∙ ap Some (sym same))
     (unwritten_row key name paged leg.between (Some row) parts.0 spared.0 here) (table ∙ sym same)
     (ap (λ (options : Options). matches options row) go.options ∙ m)
-    (ap (λ place. places_lt (place_of row.key) place) (starts_at asked leg go ∙ sym token) ∙ beyond.2)))
+    (ap (λ pair. pairs_lt (pair_of row.key) pair) (starts_at asked leg go ∙ sym token) ∙ beyond.2)))
     (one.whole row (row_at-found state.world.rows key row here).0 table m from)
 
 -- ---- a query in a history

@@ -19,13 +19,13 @@ use Rattle.tab_rows.specs.Rows.{RowView, AreRising}
 use Rattle.tab_page.specs.Pages.{key_at, matches, window, start_key, is_listed, most_looked_at}
 use Rattle.tab_page.specs.declared.pages.Options.{Options}
 use Rattle.tab_page.proofs.RisingLists.{Contains-filter, Contains-filtered, All-from_each, AllPairs-weaker, no_longer, same_rising}
-use Rattle.tab_page.proofs.OnePageLaws.{place_of, key_lt_in_table, place_from_start, listed_parts, listed_from}
+use Rattle.tab_page.proofs.OnePageLaws.{pair_of, key_lt_in_table, pair_from_start, listed_parts, listed_from}
 use Rattle.tab_page.proofs.PageCounts.{rows_ahead, matches_ahead, bounds_ahead, count_le, strictly_apart, one_way_rising, page_uses_up}
 use Rattle.tab_history.specs.World.{World, IsWorld, table_of}
 use Rattle.tab_history.specs.Legality.{State, accepted, bounds_after, world_after, after, after_all, Legal}
-use Rattle.tab_history.specs.Followed.{Asked, Leg, Query, resolve_of, page_entry, entries_from, entries_of, rows_from, rows_of, IsFollowedFrom, IsFollowed, at_first, Leaves, IsUnwritten, IsStill, place_lt, first_key, is_answer, is_in_window, HasAllBounds, FollowedStill}
+use Rattle.tab_history.specs.Followed.{Asked, Leg, Query, resolve_of, page_entry, entries_from, entries_of, rows_from, rows_of, IsFollowedFrom, IsFollowed, at_first, Leaves, IsUnwritten, IsStill, pair_lt, first_key, is_answer, is_in_window, HasAllBounds, FollowedStill}
 use Rattle.tab_history.specs.declared.entries.Entry.{Entry}
-use Rattle.tab_history.proofs.FollowedLaws.{place_total, row_at-own, page_one, rows_start, rows_rise, looked_up, rows_whole, Had, had, Rises}
+use Rattle.tab_history.proofs.FollowedLaws.{pair_total, row_at-own, page_one, rows_start, rows_rise, looked_up, rows_whole, Had, had, Rises}
 use Rattle.tab_history.proofs.HistoryLaws.{Legal-parts, rising_after, each_append, unwritten_name}
 
 -- ---- what stays where no operation is accepted
@@ -75,17 +75,17 @@ answer_from asked row e f m =
     and_from (row.key.table == asked.table && not (key_lt row.key (first_key asked))) (matches asked.options row)
     (and_from (row.key.table == asked.table) (not (key_lt row.key (first_key asked))) (eq-eqb row.key.table asked.table e) (ap not f)) m
 
-places_apart : (x y : RowView) → Rises x y → x ≡ y → ⊥
-places_apart x y h same = true≢false (sym h ∙ (ap (λ (row : RowView). place_lt x.key row.key) (sym same) ∙ lt_irreflexive place_total (place_of x.key)))
+pairs_apart : (x y : RowView) → Rises x y → x ≡ y → ⊥
+pairs_apart x y h same = true≢false (sym h ∙ (ap (λ (row : RowView). pair_lt x.key row.key) (sym same) ∙ lt_irreflexive pair_total (pair_of x.key)))
 
-places_one_way : (x y : RowView) → Rises x y → Rises y x → ⊥
-places_one_way x y h k = true≢false (sym k ∙ lt_asymmetric place_total (place_of x.key) (place_of y.key) h)
+pairs_one_way : (x y : RowView) → Rises x y → Rises y x → ⊥
+pairs_one_way x y h k = true≢false (sym k ∙ lt_asymmetric pair_total (pair_of x.key) (pair_of y.key) h)
 
 -- the rows of a query that is followed in a still world
 still_rows : (state : State) (asked : Asked) (legs : List Leg) → AreRising state.world.rows → Legal state (entries_from asked legs) → IsFollowedFrom asked legs → IsStill (entries_from asked legs)
     → table_of state.world.names asked.name ≡ Some asked.table → rows_from asked legs ≡ filter (is_answer asked) state.world.rows
 still_rows state asked legs rising legal followed still given =
-    same_rising Rises places_apart places_one_way (rows_from asked legs) (filter (is_answer asked) state.world.rows)
+    same_rising Rises pairs_apart pairs_one_way (rows_from asked legs) (filter (is_answer asked) state.world.rows)
     (rows_rise state asked legs rising legal followed)
     (AllPairs-weaker (λ a b. IsTrue (key_lt a.key b.key)) Rises (λ row. row.key.table ≡ asked.table)
     (λ a b e f h. sym (key_lt_in_table a.key b.key (e ∙ sym f)) ∙ h) (filter (is_answer asked) state.world.rows)
@@ -206,7 +206,7 @@ matches_are_answers rows rising asked =
     let found = Contains-filtered listed rows row matching.0 in
     let parts = listed_parts asked.table (window asked.options) (start_key asked.table asked.options) End row found.1 in
     Contains-filter (is_answer asked) rows row found.0
-    (answer_from asked row parts.in_table (key_lt_in_table row.key (first_key asked) parts.in_table ∙ place_from_start asked.table asked.options row.key parts.in_table parts.from) matching.1))
+    (answer_from asked row parts.in_table (key_lt_in_table row.key (first_key asked) parts.in_table ∙ pair_from_start asked.table asked.options row.key parts.in_table parts.from) matching.1))
 
 filter_le : {X : Type 0} (p : X → Bool) (xs : List X) → length (filter p xs) ≤ length xs
 filter_le p [] = omega arith

@@ -44,7 +44,7 @@ opening = record {
 abbrev pub insert_of_d : ItemView
 insert_of_d = record { name = cats; pk = 100 ∷ []; rk = []; op = Insert (record { properties = []; pk_units = 1; rk_units = 0 }) }
 
--- two rows at the most are asked for, from a place on
+-- two rows at the most are asked for, from a pair on
 abbrev pub options : Options
 options = record { filter = None; select = All; top = 2; start = None }
 

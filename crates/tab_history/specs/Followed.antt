@@ -117,8 +117,8 @@ IsStill entries = AllByRecursion (λ entry. accepted entry ≡ None) entries
 -- ---- what a followed query gives
 
 -- one key is below another by partition key and row key, whatever their tables
-abbrev pub place_lt : Key → Key → Bool
-place_lt a b = is_lt (ordering_then (text_cmp a.pk b.pk) (text_cmp a.rk b.rk))
+abbrev pub pair_lt : Key → Key → Bool
+pair_lt a b = is_lt (ordering_then (text_cmp a.pk b.pk) (text_cmp a.rk b.rk))
 
 -- the key at which the query begins
 abbrev pub first_key : Asked → Key
@@ -138,7 +138,7 @@ AreRight state asked (leg ∷ legs) = IsRight state asked × AreRight (after_all
 pub record FollowedWell (opening : State) (history : List Entry) : Type 0 where
   -- its rows rise by partition key and row key, so each comes once
   pub rising : (before after : List Entry) (query : Query) → history ≡ before ++ (entries_of query ++ after) → IsFollowed query
-      → AllPairs (λ a b. IsTrue (place_lt a.key b.key)) (rows_of query)
+      → AllPairs (λ a b. IsTrue (pair_lt a.key b.key)) (rows_of query)
   -- each is a row of the world at its page, and one that the query asks for
   pub right : (before after : List Entry) (query : Query) → history ≡ before ++ (entries_of query ++ after) → IsFollowed query
       → AreRight (at_first (after_all opening before) query) query.first query.legs

@@ -28,7 +28,7 @@ pub record World : Type 0 where
 unfoldable pub table_of : List Named → List ℕ → Option ℕ
 table_of names name = option_map (λ named. named.table) (find (λ named. bytes_eq (folded named.spelling) (folded name)) names)
 
--- the names with one more, at its place in the order of names without their case
+-- the names with one more, in the order of names without their case
 unfoldable pub with_name : List Named → Named → List Named
 with_name [] named = named ∷ []
 with_name (first ∷ names) named = if is_lt (name_cmp named.spelling first.spelling) then named ∷ first ∷ names else first ∷ with_name names named

@@ -14,7 +14,7 @@ use Rattle.tab_http.specs.declared.head_states.HeadState.TheVariants.{Blank, Lin
 
 -- ---- through lines
 
--- the bytes lead from one place to another
+-- the bytes lead from one state to another
 abbrev Leads : HeadState → List ℕ → HeadState → Type 0
 Leads from bytes to = fold next_state from bytes ≡ to
 

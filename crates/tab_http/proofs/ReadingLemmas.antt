@@ -42,22 +42,22 @@ still_none old new before after never gathered = subst HasNoHead (sym gathered.b
 pub open_without_head : (old new : Option (List ℕ)) (before after : List ℕ) → NeverHasHead before → Gathered old new before after → length after < 32768 → IsOpen after
 open_without_head old new before after never gathered short = in_head (still_none old new before after never gathered) short
 
--- the place behind all bytes, from that behind those which were seen
-pub place_behind : (bytes : List ℕ) (seen : ℕ) (place : HeadState) → place ≡ state_after (take seen bytes) → fold next_state place (drop seen bytes) ≡ state_after bytes
-place_behind bytes seen place is =
+-- the state behind all bytes, from that behind those which were seen
+pub state_behind : (bytes : List ℕ) (seen : ℕ) (state : HeadState) → state ≡ state_after (take seen bytes) → fold next_state state (drop seen bytes) ≡ state_after bytes
+state_behind bytes seen state is =
     ap (λ (p : HeadState). fold next_state p (drop seen bytes)) is ∙ sym (fold-append next_state Blank (take seen bytes) (drop seen bytes)) ∙ ap state_after (take-append-drop seen bytes)
 
--- the place is that of the bytes that were there
-pub place_kept : (old new : Option (List ℕ)) (there after : List ℕ) (seen : ℕ) (place : HeadState) → seen ≡ length there → place ≡ state_after there → Moved old new there after → place ≡ state_after (take seen after)
-place_kept old new there after seen place size is moved = is ∙ ap state_after (sym (ap (take seen) moved.behind ∙ take_at there moved.bytes seen (sym size)))
+-- the state is that of the bytes that were there
+pub state_kept : (old new : Option (List ℕ)) (there after : List ℕ) (seen : ℕ) (state : HeadState) → seen ≡ length there → state ≡ state_after there → Moved old new there after → state ≡ state_after (take seen after)
+state_kept old new there after seen state size is moved = is ∙ ap state_after (sym (ap (take seen) moved.behind ∙ take_at there moved.bytes seen (sym size)))
 
--- the place behind all bytes, as a walk from those that were seen on gives it
-pub place_read : (bytes shown : List ℕ) (seen : ℕ) (place after : HeadState) → shown ≡ bytes → place ≡ state_after (take seen bytes) → after ≡ fold next_state place (take (length shown - seen) (drop seen shown)) → after ≡ state_after bytes
-place_read bytes shown seen place after same is walked = rw same at (rw take_rest at walked) ∙ place_behind bytes seen place is
+-- the state behind all bytes, as a scan from those that were seen on gives it
+pub state_read : (bytes shown : List ℕ) (seen : ℕ) (state after : HeadState) → shown ≡ bytes → state ≡ state_after (take seen bytes) → after ≡ fold next_state state (take (length shown - seen) (drop seen shown)) → after ≡ state_after bytes
+state_read bytes shown seen state after same is scanned = rw same at (rw take_rest at scanned) ∙ state_behind bytes seen state is
 
--- bytes behind which no head has ended, by a test of their place
-pub open_at : (bytes : List ℕ) (place : HeadState) (test : Bool) → place ≡ state_after bytes → ((test ≡ true) ↔ (place ≡ Ended)) → test ≡ false → length bytes < 32768 → IsOpen bytes
-open_at bytes place test is tells not_yet short = open_before_end bytes (λ ended. both_ways test not_yet (tells.1 (is ∙ ended))) short
+-- bytes behind which no head has ended, by a test of their state
+pub open_at : (bytes : List ℕ) (state : HeadState) (test : Bool) → state ≡ state_after bytes → ((test ≡ true) ↔ (state ≡ Ended)) → test ≡ false → length bytes < 32768 → IsOpen bytes
+open_at bytes state test is tells not_yet short = open_before_end bytes (λ ended. both_ways test not_yet (tells.1 (is ∙ ended))) short
 
 -- a read that was refused where the bytes are open
 pub read_refused : (bytes : List ℕ) (refused : HttpRefused) → IsReadRefusal refused → IsOpen bytes → ReadRefused bytes refused

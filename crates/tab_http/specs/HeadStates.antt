@@ -3,7 +3,7 @@ use Rattle.std.specs.Prelude.{ℕ, ◌||◌, ◌==◌, if◌then◌else◌, List
 use Rattle.tab_http.specs.declared.head_states.HeadState.{HeadState}
 use Rattle.tab_http.specs.declared.head_states.HeadState.TheVariants.{Blank, Line, Start, Return, Ended}
 
--- the place behind one more byte; a line feed is 10, and a carriage return 13
+-- the state behind one more byte; a line feed is 10, and a carriage return 13
 abbrev pub next_state : HeadState → ℕ → HeadState
 next_state Blank b = if (b == 10) || (b == 13) then Blank else Line
 next_state Line b = if b == 10 then Start else Line
@@ -11,6 +11,6 @@ next_state Start b = if b == 10 then Ended else (if b == 13 then Return else Lin
 next_state Return b = if b == 10 then Ended else Line
 next_state Ended b = Ended
 
--- the place behind the bytes
+-- the state behind the bytes
 abbrev pub state_after : List ℕ → HeadState
 state_after bytes = fold next_state Blank bytes

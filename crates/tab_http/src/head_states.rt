@@ -18,11 +18,11 @@ pub enum HeadState {
 }
 
 impl HeadState {
-    /// The place behind these bytes.
+    /// The state behind these bytes.
     pub fn after(self, bytes: &[u8]) -> HeadState
         ensures { result ≡ fold next_state self bytes.now }
     {
-        bytes.iter().fold(self, |place, byte| place.next(*byte))
+        bytes.iter().fold(self, |state, byte| state.next(*byte))
     }
 
     fn next(self, byte: u8) -> HeadState

@@ -25,12 +25,12 @@ pub fn read_to_head_end<S: Source>(source: &mut S, carry: &mut Vec<u8>) -> Resul
     ensures beside { S.beside source.new ≡ S.beside source.old }
 {
     let mut piece = [0; PIECE];
-    let mut place = HeadState::Blank;
+    let mut state = HeadState::Blank;
     let mut seen = 0;
     loop {
-        place = place.after(&carry[seen..]);
+        state = state.after(&carry[seen..]);
         seen = carry.len();
-        if place.is_ended() || seen >= LONGEST_HEAD {
+        if state.is_ended() || seen >= LONGEST_HEAD {
             return Ok(false);
         }
         if !read_more(source, &mut piece, carry)? {

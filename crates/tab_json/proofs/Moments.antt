@@ -22,7 +22,7 @@ digits_value-last_digits (suc count) n h =
     let digit = digit_value_digit (48 + n % 10) (omega arith, omega arith) in
     rw (last_digits_more, digits_value_push, front) (omega arith)
 
--- a number whose digits stand at a place
+-- a number whose digits stand at an offset
 pub number_there : (text : List ℕ) (at count n : ℕ) → n < 10 ^ count → take count (drop at text) ≡ last_digits count n → number_at text at count ≡ n
 number_there text at count n small is = ap (digits_value 10) is ∙ digits_value-last_digits count n small
 
@@ -34,7 +34,7 @@ inner text from k i n within =
     let rest : k ≡ i + (k - i) = omega arith in
     rw (rest, drop-take, take-take n (k - i) _ (omega arith), drop-drop) refl
 
--- what a text that gives a moment has at its places
+-- what a text that gives a moment has at its offsets
 record HasParts (text : List ℕ) (p : MomentParts) : Type 0 where
   year : number_at text 0 4 ≡ p.date.year
   month : number_at text 5 2 ≡ p.date.month

@@ -6,7 +6,7 @@ use Rattle.serde_json.specs.Data.{Data, Members, object, no_members, put}
 abbrev pub Member : Type 0
 Member = List ℕ × Data
 
--- the members with these ones put to them, each at its place in the byte order of names
+-- the members with these ones put to them, each in the byte order of names
 unfoldable pub with_members : Members → List Member → Members
 with_members members more = fold (λ ms m. put m.0 m.1 ms) members more
 

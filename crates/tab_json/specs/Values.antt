@@ -65,7 +65,7 @@ pub record MomentParts : Type 0 where
 abbrev pub number_at : List ℕ → ℕ → ℕ → ℕ
 number_at text at count = digits_value 10 (take count (drop at text))
 
--- the numbers that stand at their places in `YYYY-MM-DDTHH:MM:SS.fffffffZ`, with as many digits of a fraction as there are
+-- the numbers that stand at their offsets in `YYYY-MM-DDTHH:MM:SS.fffffffZ`, with as many digits of a fraction as there are
 abbrev pub parts_in : List ℕ → MomentParts
 parts_in text = record {
   date = record { year = number_at text 0 4; month = number_at text 5 2; day = number_at text 8 2 };

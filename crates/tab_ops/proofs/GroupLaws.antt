@@ -162,12 +162,12 @@ refused_alike index rows others table tick other (item ∷ items) why apart alik
 pub alike_itself : (rows : List RowView) (table : ℕ) (items : List ItemView) → AreAlike rows rows table items
 alike_itself rows table items = λ k d within. refl
 
--- a refusal is that of an item, by its place behind the first
+-- a refusal is that of an item, by how many items stand before it
 record RefusedFrom (index : ℕ) (rows : List RowView) (table : ℕ) (items : List ItemView) (why : OpRefused) : Type 0 where
-  pub place : ℕ
+  pub behind : ℕ
   pub item : ItemView
-  pub here : slice_get items place ≡ Some item
-  pub refused : outcome_of (index + place) (row_at rows (item_key table item)) item.op ≡ Err why
+  pub here : slice_get items behind ≡ Some item
+  pub refused : outcome_of (index + behind) (row_at rows (item_key table item)) item.op ≡ Err why
 
 refused_from : (index : ℕ) (rows now : List RowView) (table tick : ℕ) (items : List ItemView) (why : OpRefused) → AreApart items → AreAlike now rows table items
     → rows_after index now table tick items ≡ Err why → RefusedFrom index rows table items why
@@ -186,8 +186,8 @@ refused_from index rows now table tick (item ∷ items) why apart alike h =
 
     later : RefusedFrom (index + 1) rows table items why → RefusedFrom index rows table (item ∷ items) why
     later r =
-        let further : (index + 1) + r.place ≡ index + suc r.place = omega arith in
-        record { place = suc r.place; item = r.item; here = r.here; refused = ap (λ n. outcome_of n (row_at rows (item_key table r.item)) r.item.op) (sym further) ∙ r.refused }
+        let further : (index + 1) + r.behind ≡ index + suc r.behind = omega arith in
+        record { behind = suc r.behind; item = r.item; here = r.here; refused = ap (λ n. outcome_of n (row_at rows (item_key table r.item)) r.item.op) (sym further) ∙ r.refused }
 
     by_case : ((outcome : Option EntityView) → next outcome ≡ Err why → RefusedFrom (index + 1) rows table items why) → (o : Result (Option EntityView) OpRefused) → outcome_of index (row_at now (item_key table item)) item.op ≡ o → RefusedFrom index rows table (item ∷ items) why
     by_case rest (Ok outcome) e = later (rest outcome (ap (λ r. unless_refused r next) (sym e) ∙ h))
@@ -195,7 +195,7 @@ refused_from index rows now table tick (item ∷ items) why apart alike h =
         let at_once : index + zero ≡ index = omega arith in
         let stopped : unless_refused (Err refusal) next ≡ Err why = ap (λ r. unless_refused r next) (sym e) ∙ h in
         record {
-          place = zero;
+          behind = zero;
           item = item;
           here = refl;
           refused = ap (λ n. outcome_of n (row_at rows (item_key table item)) item.op) at_once
@@ -205,8 +205,8 @@ refused_from index rows now table tick (item ∷ items) why apart alike h =
 pub refused_by_item : (rows : List RowView) (table tick : ℕ) (group : List ItemView) (why : OpRefused) → AreApart group → group_outcome rows table tick group ≡ Err why → IsRefusedByItem rows table group why
 refused_by_item rows table tick group why apart h =
     let r = refused_from 0 rows rows table tick group why apart (alike_itself rows table group) h in
-    let place : 0 + r.place ≡ r.place = omega arith in
-    record { place = r.place; item = r.item; here = r.here; refused = ap (λ n. outcome_of n (row_at rows (item_key table r.item)) r.item.op) (sym place) ∙ r.refused }
+    let behind : 0 + r.behind ≡ r.behind = omega arith in
+    record { index = r.behind; item = r.item; here = r.here; refused = ap (λ n. outcome_of n (row_at rows (item_key table r.item)) r.item.op) (sym behind) ∙ r.refused }
 
 pub refused_at_any_tick : (rows : List RowView) (table tick other : ℕ) (group : List ItemView) (why : OpRefused) → AreApart group → group_outcome rows table tick group ≡ Err why → group_outcome rows table other group ≡ Err why
 refused_at_any_tick rows table tick other group why apart h = refused_alike 0 rows rows table tick other group why apart (alike_itself rows table group) h
@@ -219,9 +219,9 @@ accepted_at_any_tick rows after table tick other group apart h = by_case (group_
     by_case (Err why) e = let stuck : Ok after ≡ Err why = sym h ∙ refused_at_any_tick rows table other tick group why apart e in absurd (cc)
 
 -- each item acts on the rows as they were before the group
-pub saw_rows_before : (index : ℕ) (rows now after : List RowView) (table tick place : ℕ) (items : List ItemView) (item : ItemView) → AreApart items → AreAlike now rows table items
-    → rows_after index now table tick items ≡ Ok after → slice_get items place ≡ Some item → SawRowsBefore rows after table tick (index + place) item
-saw_rows_before index rows now after table tick place [] item apart alike h here = absurd (none-some item here)
+pub saw_rows_before : (index : ℕ) (rows now after : List RowView) (table tick behind : ℕ) (items : List ItemView) (item : ItemView) → AreApart items → AreAlike now rows table items
+    → rows_after index now table tick items ≡ Ok after → slice_get items behind ≡ Some item → SawRowsBefore rows after table tick (index + behind) item
+saw_rows_before index rows now after table tick behind [] item apart alike h here = absurd (none-some item here)
 saw_rows_before index rows now after table tick zero (first ∷ items) item apart alike h here =
     let one = accepted index now table tick first items after h in
     let it : first ≡ item = same_Some first item here in
@@ -233,11 +233,11 @@ saw_rows_before index rows now after table tick zero (first ∷ items) item apar
       stands = row_at-rows_after_other (index + 1) (settled now key tick one.outcome) table tick items after key (All-weaker (λ other. IsFalse (same_key key (item_key table other))) (λ other. IsFalse (same_key (item_key table other) key)) (λ other k. same_key_equivalence.symm (item_key table other) key ∙ k) items (head_apart table first items apart)) one.rest
           ∙ row_at-settled now key tick one.outcome;
     })
-saw_rows_before index rows now after table tick (suc place) (first ∷ items) item apart alike h here =
+saw_rows_before index rows now after table tick (suc behind) (first ∷ items) item apart alike h here =
     let one = accepted index now table tick first items after h in
-    let later : (index + 1) + place ≡ index + suc place = omega arith in
+    let later : (index + 1) + behind ≡ index + suc behind = omega arith in
     subst (λ (n : ℕ). SawRowsBefore rows after table tick n item) later
-    (saw_rows_before (index + 1) rows (settled now (item_key table first) tick one.outcome) after table tick place items item
+    (saw_rows_before (index + 1) rows (settled now (item_key table first) tick one.outcome) after table tick behind items item
     (AllPairs-tail (λ a b. IsFalse (is_eq (text_cmp a.rk b.rk))) first items apart)
     (λ k d within. row_at-settled_other now (item_key table first) tick one.outcome _ (head_apart table first items apart k d within)
     ∙ All-tail (λ item. row_at now (item_key table item) ≡ row_at rows (item_key table item)) first items alike k d within)
@@ -246,8 +246,8 @@ saw_rows_before index rows now after table tick (suc place) (first ∷ items) it
 pub each_saw_rows_before : (rows after : List RowView) (table tick index : ℕ) (group : List ItemView) (item : ItemView) → AreApart group
     → group_outcome rows table tick group ≡ Ok after → slice_get group index ≡ Some item → SawRowsBefore rows after table tick index item
 each_saw_rows_before rows after table tick index group item apart h here =
-    let place : 0 + index ≡ index = omega arith in
-    subst (λ (n : ℕ). SawRowsBefore rows after table tick n item) place (saw_rows_before 0 rows rows after table tick index group item apart (alike_itself rows table group) h here)
+    let behind : 0 + index ≡ index = omega arith in
+    subst (λ (n : ℕ). SawRowsBefore rows after table tick n item) behind (saw_rows_before 0 rows rows after table tick index group item apart (alike_itself rows table group) h here)
 
 pub other_keys_stay : (rows after : List RowView) (table tick : ℕ) (group : List ItemView) (key : Key) → All (λ own. IsFalse (same_key own key)) (group_keys table group)
     → group_outcome rows table tick group ≡ Ok after → row_at after key ≡ row_at rows key

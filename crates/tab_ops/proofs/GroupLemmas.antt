@@ -36,7 +36,7 @@ module _ (items : List ItemView) (i : ℕ) (item : ItemView) (within : i < lengt
   pub doubled_stops : (before : List (List ℕ)) → list_any (λ rk. bytes_eq rk item.rk) before ≡ true → first_doubled i before (drop i items) ≡ Some (DoubledRow i)
   doubled_stops before h = ap (first_doubled i before) behind ∙ ap (λ b. cond b (Some (DoubledRow i)) (first_doubled (i + 1) (item.rk ∷ before) (drop (i + 1) items))) h
 
--- no item up to this place has a row key that stood before
+-- no item up to this index has a row key that stood before
 pub record Looked (items : List ItemView) (i : ℕ) : Type 0 where
   pub before : List (List ℕ)
   pub same : (rk : List ℕ) → list_any (λ other. bytes_eq other rk) before ≡ list_any (λ other. bytes_eq other.rk rk) (take i items)

@@ -116,7 +116,7 @@ refuses index rows table tick item why h = by_case (outcome_of index (row_at row
 
 -- ---- the loop
 
--- the changes of the items before this place, and what is left
+-- the changes of the items before this index, and what is left
 pub record Planned (rows : List RowView) (changes : List Change) (table tick : ℕ) (items : List ItemView) (i : ℕ) : Type 0 where
   pub so_far : group_outcome rows table tick items ≡ rows_after i (applied rows changes) table tick (drop i items)
   pub alike : AreAlike (applied rows changes) rows table (drop i items)

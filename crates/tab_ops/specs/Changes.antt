@@ -31,7 +31,7 @@ abbrev pub merged : List Property → List Property → List Property
 merged kept [] = kept
 merged kept (property ∷ given) = merged (with_property kept property) given
 
--- an entity within the limits, or the refusal of the operation at this place
+-- an entity within the limits, or the refusal of the operation at this index
 abbrev pub within_limits : ℕ → EntityView → Result (Option EntityView) OpRefused
 within_limits index entity =
     if nat_lt 252 (length entity.properties) then Err (TooMany index)
@@ -46,7 +46,7 @@ merge_outcome index kept given = within_limits index (record given { properties 
 abbrev pub on_condition : ℕ → Match → ℕ → Result (Option EntityView) OpRefused → Result (Option EntityView) OpRefused
 on_condition index condition kept outcome = if meets condition kept then outcome else Err (Condition index kept)
 
--- what an operation, the one at this place of its group, makes of a row or its absence: a new entity, absence, or
+-- what an operation, the one at this index of its group, makes of a row or its absence: a new entity, absence, or
 -- a refusal
 abbrev pub outcome_of : ℕ → Option RowView → Op → Result (Option EntityView) OpRefused
 outcome_of index None (Insert entity) = Ok (Some entity)
@@ -74,7 +74,7 @@ abbrev pub unless_refused : {A B : Type 0} → Result A OpRefused → (A → Res
 unless_refused (Ok outcome) next = next outcome
 unless_refused (Err refusal) next = Err refusal
 
--- The rows after the items, the first of which has this place in its group, acted in their order with one tick, or
+-- The rows after the items, the first of which has this index in its group, acted in their order with one tick, or
 -- the first refusal.
 abbrev pub rows_after : ℕ → List RowView → ℕ → ℕ → List ItemView → Result (List RowView) OpRefused
 rows_after index rows table tick [] = Ok rows
@@ -111,7 +111,7 @@ abbrev pub as_change : Key → ℕ → Result (Option EntityView) OpRefused → 
 as_change key tick (Ok outcome) = Ok (change_to key tick outcome)
 as_change key tick (Err refusal) = Err refusal
 
--- the change that an item, the one at this place of its group, makes of rows, or its refusal
+-- the change that an item, the one at this index of its group, makes of rows, or its refusal
 abbrev pub change_of : ℕ → List RowView → ℕ → ℕ → ItemView → Result Change OpRefused
 change_of index rows table tick item =
     as_change (item_key table item) tick (outcome_of index (row_at rows (item_key table item)) item.op)

@@ -37,13 +37,13 @@ item_key table item = record { table = table; pk = item.pk; rk = item.rk }
 abbrev pub is_beside : ItemView → ItemView → Bool
 is_beside first item = bytes_eq (folded item.name) (folded first.name) && bytes_eq item.pk first.pk
 
--- the place of the first item that is in another table or partition; the first of them has this place in its group
+-- the index of the first item that is in another table or partition; the first of them has this index in its group
 abbrev pub first_elsewhere : ℕ → ItemView → List ItemView → Option GroupRefused
 first_elsewhere index first [] = None
 first_elsewhere index first (item ∷ items) =
     if is_beside first item then first_elsewhere (index + 1) first items else Some (MixedPartitions index)
 
--- the place of the first item whose row key stood before, among these or the items before it
+-- the index of the first item whose row key stood before, among these or the items before it
 abbrev pub first_doubled : ℕ → List (List ℕ) → List ItemView → Option GroupRefused
 first_doubled index before [] = None
 first_doubled index before (item ∷ items) =

@@ -16,7 +16,7 @@ row_made key tick None = None
 abbrev pub IsKeptOrPut : List RowView → ℕ → ℕ → List ItemView → RowView → Type 0
 IsKeptOrPut rows table tick group row = Contains rows row ⊎ ((row.tick ≡ tick) × Contains (group_keys table group) row.key)
 
--- the item at this place made what stands at its key of the row that stood there before the whole group
+-- the item at this index made what stands at its key of the row that stood there before the whole group
 pub record SawRowsBefore (rows after : List RowView) (table tick index : ℕ) (item : ItemView) : Type 0 where
   pub outcome : Option EntityView
   pub is : outcome_of index (row_at rows (item_key table item)) item.op ≡ Ok outcome
@@ -24,7 +24,7 @@ pub record SawRowsBefore (rows after : List RowView) (table tick index : ℕ) (i
 
 -- an item of the group is refused so, and acts on these rows
 pub record IsRefusedByItem (rows : List RowView) (table : ℕ) (group : List ItemView) (why : OpRefused) : Type 0 where
-  pub place : ℕ
+  pub index : ℕ
   pub item : ItemView
-  pub here : slice_get group place ≡ Some item
-  pub refused : outcome_of place (row_at rows (item_key table item)) item.op ≡ Err why
+  pub here : slice_get group index ≡ Some item
+  pub refused : outcome_of index (row_at rows (item_key table item)) item.op ≡ Err why

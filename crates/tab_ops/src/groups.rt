@@ -16,15 +16,15 @@ pub enum GroupRefused {
     Empty,
     /// There are more than 100.
     TooMany,
-    /// The operation at this place is in another table or partition than the first.
+    /// The operation at this index is in another table or partition than the first.
     MixedPartitions { index: usize },
-    /// The operation at this place has the row of one before it.
+    /// The operation at this index has the row of one before it.
     DoubledRow { index: usize },
     /// No memory was found.
     Memory,
 }
 
-/// Why a group is refused, with the place of the first operation that is.
+/// Why a group is refused, with the index of the first operation that is.
 #[derive(Clone, Copy, Debug, PartialEq, Eq)]
 pub enum OpRefused {
     /// The row is there already.

@@ -7,7 +7,7 @@ use crate::OpRefused;
 use std::alloc::Global;
 use tab_edm::{EdmRefused, Entity, Memory, Property};
 
-/// The entity that a merge of given properties into kept ones makes, by the operation at this place.
+/// The entity that a merge of given properties into kept ones makes, by the operation at this index.
 pub(crate) fn merge(
     alloc: Global,
     index: usize,

@@ -10,7 +10,7 @@ use std::alloc::Global;
 use tab_edm::Entity;
 use tab_rows::Row;
 
-/// What the operation at this place of its group makes of a row or its absence.
+/// What the operation at this index of its group makes of a row or its absence.
 pub(crate) fn outcome_of(
     alloc: Global,
     index: usize,

@@ -25,21 +25,21 @@ use Rattle.tab_page.specs.declared.pages.Options.{Options}
 use Rattle.tab_page.specs.declared.pages.Page.{Page}
 use Rattle.tab_page.proofs.RisingLists.{Contains-here, Contains-cons_cases, Contains-nil, Contains-filter, Contains-filtered, Contains-cut, Contains-take, Contains-drop, All-from_each, AllPairs-head, AllPairs-front, AllPairs-back, AllPairs-across, AllPairs-weaker}
 
--- ---- places
+-- ---- pairs
 
--- one place is below another, by partition key and then by row key
-abbrev pub place_lt : List ℕ × List ℕ → List ℕ × List ℕ → Bool
-place_lt a b = is_lt (ordering_then (text_cmp a.0 b.0) (text_cmp a.1 b.1))
+-- one pair is below another, by partition key and then by row key
+abbrev pub pair_lt : List ℕ × List ℕ → List ℕ × List ℕ → Bool
+pair_lt a b = is_lt (ordering_then (text_cmp a.0 b.0) (text_cmp a.1 b.1))
 
-abbrev pub place_of : Key → List ℕ × List ℕ
-place_of key = (key.pk, key.rk)
+abbrev pub pair_of : Key → List ℕ × List ℕ
+pair_of key = (key.pk, key.rk)
 
--- the place at which the options begin
-abbrev pub start_place : Options → List ℕ × List ℕ
-start_place options = unwrap_or options.start ([], [])
+-- the pair at which the options begin
+abbrev pub start_pair : Options → List ℕ × List ℕ
+start_pair options = unwrap_or options.start ([], [])
 
--- keys of one table compare as their places
-pub key_lt_in_table : (a b : Key) → a.table ≡ b.table → key_lt a b ≡ place_lt (place_of a) (place_of b)
+-- keys of one table compare as their pairs
+pub key_lt_in_table : (a b : Key) → a.table ≡ b.table → key_lt a b ≡ pair_lt (pair_of a) (pair_of b)
 unfolding key_cmp
 key_lt_in_table a b e = ap (λ (r : Ordering). is_lt (ordering_then r (ordering_then (text_cmp a.pk b.pk) (text_cmp a.rk b.rk)))) (sym (nat_cmp_is a.table b.table Equal e))
 
@@ -75,24 +75,24 @@ module _ (table : ℕ) (options : Options) where
   -- the page begins in the table
   pub start_table : (start_key table options).table ≡ table
   unfolding start_key
-  start_table = by_test (key_lt (key_at table (start_place options)) (key_at table (corner (window options))))
+  start_table = by_test (key_lt (key_at table (start_pair options)) (key_at table (corner (window options))))
     where
-      by_test : (t : Bool) → (cond t (key_at table (corner (window options))) (key_at table (start_place options))).table ≡ table
+      by_test : (t : Bool) → (cond t (key_at table (corner (window options))) (key_at table (start_pair options))).table ≡ table
       by_test true = refl
       by_test false = refl
 
   -- and not before the options do
-  pub start_after : key_lt (start_key table options) (key_at table (start_place options)) ≡ false
+  pub start_after : key_lt (start_key table options) (key_at table (start_pair options)) ≡ false
   unfolding start_key
   start_after =
-      (not_before_later (key_at table (start_place options)) (key_at table (corner (window options))) (start_key table options) (key_lt_irreflexive (start_key table options))).0
+      (not_before_later (key_at table (start_pair options)) (key_at table (corner (window options))) (start_key table options) (key_lt_irreflexive (start_key table options))).0
 
   -- a key of the table that is not before the page's start is not before the options' either
-  pub place_from_start : (key : Key) → key.table ≡ table → key_lt key (start_key table options) ≡ false → place_lt (place_of key) (start_place options) ≡ false
+  pub pair_from_start : (key : Key) → key.table ≡ table → key_lt key (start_key table options) ≡ false → pair_lt (pair_of key) (start_pair options) ≡ false
   unfolding start_key
-  place_from_start key e h =
-      sym (key_lt_in_table key (key_at table (start_place options)) e)
-      ∙ (not_before_later (key_at table (start_place options)) (key_at table (corner (window options))) key h).0
+  pair_from_start key e h =
+      sym (key_lt_in_table key (key_at table (start_pair options)) e)
+      ∙ (not_before_later (key_at table (start_pair options)) (key_at table (corner (window options))) key h).0
 
 passes_inside : (filter : Option Tree) (row : RowView) → passes filter row ≡ true → has (window_for filter) row.key.pk row.key.rk ≡ true
 passes_inside None row h = refl
@@ -103,11 +103,11 @@ pub matches_inside : (options : Options) (row : RowView) → matches options row
 matches_inside options row h = passes_inside options.filter row h
 
 -- and from the page's start on, where it is from the options' on
-pub start_from_place : (table : ℕ) (options : Options) (row : RowView) → row.key.table ≡ table → matches options row ≡ true → place_lt (place_of row.key) (start_place options) ≡ false → key_lt row.key (start_key table options) ≡ false
+pub start_from_pair : (table : ℕ) (options : Options) (row : RowView) → row.key.table ≡ table → matches options row ≡ true → pair_lt (pair_of row.key) (start_pair options) ≡ false → key_lt row.key (start_key table options) ≡ false
 unfolding start_key
-start_from_place table options row e h k =
-    later_not_before (key_at table (start_place options)) (key_at table (corner (window options))) row.key
-    (key_lt_in_table row.key (key_at table (start_place options)) e ∙ k)
+start_from_pair table options row e h k =
+    later_not_before (key_at table (start_pair options)) (key_at table (corner (window options))) row.key
+    (key_lt_in_table row.key (key_at table (start_pair options)) e ∙ k)
     (key_lt_in_table row.key (key_at table (corner (window options))) e ∙ starts_low (window options) row.key.pk row.key.rk (matches_inside options row h))
 
 behind_lesser : (key : Key) (a b : Bound) → is_before key a ≡ true → is_before key b ≡ true → is_before key (lesser a b) ≡ true
@@ -170,7 +170,7 @@ between table other Greater e a b h k = absurd (true≢false (sym h))
 
 -- a row of the table and the window that is past the end, where the start is not
 past_end : (table : ℕ) (all : WindowView) (start : Key) (end : Bound) → start.table ≡ table → is_before start end ≡ true → (row : RowView) → row.key.table ≡ table → has all row.key.pk row.key.rk ≡ true → is_before row.key end ≡ false
-    → (token : List ℕ × List ℕ) × (next_of table all end [] ≡ Some token) × (place_lt (place_of row.key) token ≡ false)
+    → (token : List ℕ × List ℕ) × (next_of table all end [] ≡ Some token) × (pair_lt (pair_of row.key) token ≡ false)
 past_end table all start End starts behind row e inside past = absurd (true≢false past)
 past_end table all start (At other pk) starts behind row e inside past =
     let low : is_lt (ordering_then (nat_cmp table other) (text_cmp start.pk pk)) ≡ true = subst (λ number. is_lt (ordering_then (nat_cmp number other) (text_cmp start.pk pk)) ≡ true) starts (sym (is_before_At start other pk) ∙ behind) in
@@ -185,34 +185,34 @@ module _ (table : ℕ) (all : WindowView) (start : Key) (end : Bound) where
 
   -- each row before it is below it
   pub next_below : (front back : List RowView) → AllPairs Rises (front ++ back) → ((row : RowView) → Contains front row → Lists row) → ((row : RowView) → Contains back row → Lists row)
-      → (token : List ℕ × List ℕ) → next_of table all end back ≡ Some token → (row : RowView) → Contains front row → place_lt (place_of row.key) token ≡ true
+      → (token : List ℕ × List ℕ) → next_of table all end back ≡ Some token → (row : RowView) → Contains front row → pair_lt (pair_of row.key) token ≡ true
   next_below front (first ∷ back) rising f b token h row within =
-      subst (λ place. place_lt (place_of row.key) place ≡ true) (same_Some (place_of first.key) token h)
+      subst (λ pair. pair_lt (pair_of row.key) pair ≡ true) (same_Some (pair_of first.key) token h)
       (sym (key_lt_in_table row.key first.key ((f row within).in_table ∙ sym (b first (Contains-here first back)).in_table))
       ∙ AllPairs-across Rises front (first ∷ back) rising row first within (Contains-here first back))
   next_below front [] rising f b token h row within =
       let at = at_end table all end token h in
-      subst (λ place. place_lt (place_of row.key) place ≡ true) (sym at.2)
+      subst (λ pair. pair_lt (pair_of row.key) pair ≡ true) (sym at.2)
       (sym (key_lt_in_table row.key (head_key table at.0) (f row within).in_table) ∙ subst (λ e. is_before row.key e ≡ true) at.1 (f row within).below)
 
   -- it is not before the start
-  next_from : (place : List ℕ × List ℕ) → key_lt start (key_at table place) ≡ false → ((key : Key) → key.table ≡ table → key_lt key start ≡ false → place_lt (place_of key) place ≡ false) → is_before start end ≡ true
-      → (back : List RowView) → ((row : RowView) → Contains back row → Lists row) → (token : List ℕ × List ℕ) → next_of table all end back ≡ Some token → place_lt token place ≡ false
-  next_from place low from behind (first ∷ back) b token h =
+  next_from : (pair : List ℕ × List ℕ) → key_lt start (key_at table pair) ≡ false → ((key : Key) → key.table ≡ table → key_lt key start ≡ false → pair_lt (pair_of key) pair ≡ false) → is_before start end ≡ true
+      → (back : List RowView) → ((row : RowView) → Contains back row → Lists row) → (token : List ℕ × List ℕ) → next_of table all end back ≡ Some token → pair_lt token pair ≡ false
+  next_from pair low from behind (first ∷ back) b token h =
       let listed = b first (Contains-here first back) in
-      subst (λ t. place_lt t place ≡ false) (same_Some (place_of first.key) token h) (from first.key listed.in_table listed.from)
-  next_from place low from behind [] b token h =
+      subst (λ t. pair_lt t pair ≡ false) (same_Some (pair_of first.key) token h) (from first.key listed.in_table listed.from)
+  next_from pair low from behind [] b token h =
       let at = at_end table all end token h in
       let head : key_lt start (head_key table at.0) ≡ true = subst (λ e. is_before start e ≡ true) at.1 behind in
-      subst (λ t. place_lt t place ≡ false) (sym at.2)
-      (sym (key_lt_in_table (head_key table at.0) (key_at table place) refl)
-      ∙ key_lt_asymmetric (key_at table place) (head_key table at.0) (key_lt_from_le (key_at table place) start (head_key table at.0) low head))
+      subst (λ t. pair_lt t pair ≡ false) (sym at.2)
+      (sym (key_lt_in_table (head_key table at.0) (key_at table pair) refl)
+      ∙ key_lt_asymmetric (key_at table pair) (head_key table at.0) (key_lt_from_le (key_at table pair) start (head_key table at.0) low head))
 
   -- what stands among the rows left is not below it
   next_first : (back : List RowView) → AllPairs Rises back → ((row : RowView) → Contains back row → Lists row) → (row : RowView) → Contains back row
-      → (token : List ℕ × List ℕ) × (next_of table all end back ≡ Some token) × (place_lt (place_of row.key) token ≡ false)
+      → (token : List ℕ × List ℕ) × (next_of table all end back ≡ Some token) × (pair_lt (pair_of row.key) token ≡ false)
   next_first [] rising b row within = absurd (Contains-nil row within)
-  next_first (first ∷ back) rising b row within = (place_of first.key, refl, sym (key_lt_in_table row.key first.key tables) ∙ not_below (Contains-cons_cases first row back within))
+  next_first (first ∷ back) rising b row within = (pair_of first.key, refl, sym (key_lt_in_table row.key first.key tables) ∙ not_below (Contains-cons_cases first row back within))
     where
       tables : row.key.table ≡ first.key.table
       tables = (b row within).in_table ∙ sym (b first (Contains-here first back)).in_table
@@ -224,10 +224,10 @@ module _ (table : ℕ) (all : WindowView) (start : Key) (end : Bound) where
   -- nor is what stands past the end, in the table and the window
   next_past : start.table ≡ table → is_before start end ≡ true → (back : List RowView) → ((row : RowView) → Contains back row → Lists row)
       → (row : RowView) → row.key.table ≡ table → has all row.key.pk row.key.rk ≡ true → is_before row.key end ≡ false
-      → (token : List ℕ × List ℕ) × (next_of table all end back ≡ Some token) × (place_lt (place_of row.key) token ≡ false)
+      → (token : List ℕ × List ℕ) × (next_of table all end back ≡ Some token) × (pair_lt (pair_of row.key) token ≡ false)
   next_past starts behind (first ∷ back) b row e inside past =
       let listed = b first (Contains-here first back) in
-      (place_of first.key, refl, sym (key_lt_in_table row.key first.key (e ∙ sym listed.in_table)) ∙ key_lt_asymmetric first.key row.key (key_lt_across first.key row.key end listed.below past))
+      (pair_of first.key, refl, sym (key_lt_in_table row.key first.key (e ∙ sym listed.in_table)) ∙ key_lt_asymmetric first.key row.key (key_lt_across first.key row.key end listed.below past))
   next_past starts behind [] b row e inside past = past_end table all start end starts behind row e inside past
 
 -- ---- one page
@@ -235,18 +235,18 @@ module _ (table : ℕ) (all : WindowView) (start : Key) (end : Bound) where
 -- what a page has of the rows
 pub record OnePage (rows : List RowView) (table : ℕ) (options : Options) (page : Page) : Type 0 where
   -- its rows rise
-  pub rising : AllPairs (λ a b. IsTrue (place_lt (place_of a.key) (place_of b.key))) page.rows
+  pub rising : AllPairs (λ a b. IsTrue (pair_lt (pair_of a.key) (pair_of b.key))) page.rows
   -- each is one of the table's rows that the query asks for
   pub right : (row : RowView) → Contains page.rows row → Contains rows row × (row.key.table ≡ table) × (matches options row ≡ true)
-  -- from the place on at which the options begin
-  pub from : (row : RowView) → Contains page.rows row → place_lt (place_of row.key) (start_place options) ≡ false
-  -- and below the place at which the next page begins
-  pub below : (token : List ℕ × List ℕ) → page.next ≡ Some token → (row : RowView) → Contains page.rows row → place_lt (place_of row.key) token ≡ true
+  -- from the pair on at which the options begin
+  pub from : (row : RowView) → Contains page.rows row → pair_lt (pair_of row.key) (start_pair options) ≡ false
+  -- and below the pair at which the next page begins
+  pub below : (token : List ℕ × List ℕ) → page.next ≡ Some token → (row : RowView) → Contains page.rows row → pair_lt (pair_of row.key) token ≡ true
   -- the next page does not begin before this one
-  pub ahead : (token : List ℕ × List ℕ) → page.next ≡ Some token → place_lt token (start_place options) ≡ false
+  pub ahead : (token : List ℕ × List ℕ) → page.next ≡ Some token → pair_lt token (start_pair options) ≡ false
   -- each of the table's rows that the query asks for, from the options' start on, is on the page or not below the next one
-  pub whole : (row : RowView) → Contains rows row → row.key.table ≡ table → matches options row ≡ true → place_lt (place_of row.key) (start_place options) ≡ false
-      → Contains page.rows row ⊎ ((token : List ℕ × List ℕ) × (page.next ≡ Some token) × (place_lt (place_of row.key) token ≡ false))
+  pub whole : (row : RowView) → Contains rows row → row.key.table ≡ table → matches options row ≡ true → pair_lt (pair_of row.key) (start_pair options) ≡ false
+      → Contains page.rows row ⊎ ((token : List ℕ × List ℕ) × (page.next ≡ Some token) × (pair_lt (pair_of row.key) token ≡ false))
 
 module _ (rows : List RowView) (rising : AreRising rows) (table : ℕ) (options : Options) (end : Bound) (behind : is_before (start_key table options) end ≡ true) (n : ℕ) where
   abbrev its_window : WindowView
@@ -273,16 +273,16 @@ module _ (rows : List RowView) (rising : AreRising rows) (table : ℕ) (options 
   pub back_lists : (row : RowView) → Contains (drop n its_list) row → IsListed table its_window its_start end row
   back_lists row within = lists row (Contains-drop n its_list row within)
 
-  found : (row : RowView) → Contains rows row → row.key.table ≡ table → matches options row ≡ true → place_lt (place_of row.key) (start_place options) ≡ false
-      → Contains (filter (matches options) (take n its_list)) row ⊎ ((token : List ℕ × List ℕ) × (next_of table its_window end (drop n its_list) ≡ Some token) × (place_lt (place_of row.key) token ≡ false))
+  found : (row : RowView) → Contains rows row → row.key.table ≡ table → matches options row ≡ true → pair_lt (pair_of row.key) (start_pair options) ≡ false
+      → Contains (filter (matches options) (take n its_list)) row ⊎ ((token : List ℕ × List ℕ) × (next_of table its_window end (drop n its_list) ≡ Some token) × (pair_lt (pair_of row.key) token ≡ false))
   found row within e m from = by_test (is_before row.key end) refl
     where
       inside : has its_window row.key.pk row.key.rk ≡ true
       inside = matches_inside options row m
 
-      by_test : (t : Bool) → is_before row.key end ≡ t → Contains (filter (matches options) (take n its_list)) row ⊎ ((token : List ℕ × List ℕ) × (next_of table its_window end (drop n its_list) ≡ Some token) × (place_lt (place_of row.key) token ≡ false))
+      by_test : (t : Bool) → is_before row.key end ≡ t → Contains (filter (matches options) (take n its_list)) row ⊎ ((token : List ℕ × List ℕ) × (next_of table its_window end (drop n its_list) ≡ Some token) × (pair_lt (pair_of row.key) token ≡ false))
       by_test true below =
-          let test : is_listed table its_window its_start end row ≡ true = listed_from table its_window its_start end row (record { in_table = e; from = start_from_place table options row e m from; below = below; inside = inside }) in
+          let test : is_listed table its_window its_start end row ≡ true = listed_from table its_window its_start end row (record { in_table = e; from = start_from_pair table options row e m from; below = below; inside = inside }) in
           ⊎_elim
           (λ front. inl (Contains-filter (matches options) (take n its_list) row front m))
           (λ back. inr (next_first table its_window its_start end (drop n its_list) (AllPairs-back Rises (take n its_list) (drop n its_list) list_rises) back_lists row back))
@@ -292,15 +292,15 @@ module _ (rows : List RowView) (rising : AreRising rows) (table : ℕ) (options 
   pub one_page : OnePage rows table options (page_up_to table options end n (listed rows table options end))
   unfolding page_up_to listed
   one_page = record {
-    rising = AllPairs-filter (λ a b. IsTrue (place_lt (place_of a.key) (place_of b.key))) (matches options) (take n its_list)
-        (AllPairs-weaker Rises (λ a b. IsTrue (place_lt (place_of a.key) (place_of b.key))) (IsListed table its_window its_start end)
+    rising = AllPairs-filter (λ a b. IsTrue (pair_lt (pair_of a.key) (pair_of b.key))) (matches options) (take n its_list)
+        (AllPairs-weaker Rises (λ a b. IsTrue (pair_lt (pair_of a.key) (pair_of b.key))) (IsListed table its_window its_start end)
         (λ a b f g h. sym (key_lt_in_table a.key b.key (f.in_table ∙ sym g.in_table)) ∙ h) (take n its_list) (All-from_each (IsListed table its_window its_start end) (take n its_list) front_lists)
         (AllPairs-front Rises (take n its_list) (drop n its_list) list_rises));
     right = λ row within. let test = looked row within in
         ((Contains-filtered (is_listed table its_window its_start end) rows row (Contains-take n its_list row test.0)).0, (front_lists row test.0).in_table, test.1);
-    from = λ row within. let listed = front_lists row (looked row within).0 in place_from_start table options row.key listed.in_table listed.from;
+    from = λ row within. let listed = front_lists row (looked row within).0 in pair_from_start table options row.key listed.in_table listed.from;
     below = λ token h row within. next_below table its_window its_start end (take n its_list) (drop n its_list) list_rises front_lists back_lists token h row (looked row within).0;
-    ahead = λ token h. next_from table its_window its_start end (start_place options) (start_after table options) (place_from_start table options) behind (drop n its_list) back_lists token h;
+    ahead = λ token h. next_from table its_window its_start end (start_pair options) (start_after table options) (pair_from_start table options) behind (drop n its_list) back_lists token h;
     whole = found;
   }
 

@@ -16,7 +16,7 @@ use Rattle.tab_filter.specs.Windows.{WindowView}
 use Rattle.tab_page.specs.Pages.{passes, matches, window, key_at, start_key, end_above, is_listed, next_of, prefix_length, listed, page_up_to, page_of, page_below, looked_at, most_looked_at}
 use Rattle.tab_page.specs.declared.pages.Options.{Options}
 use Rattle.tab_page.proofs.RisingLists.{Contains-here, Contains-there, Contains-cons_cases, Contains-nil, Contains-filter, Contains-filtered, Contains-take, All-from_each, AllPairs-append, AllPairs-front, no_longer}
-use Rattle.tab_page.proofs.OnePageLaws.{place_of, key_lt_in_table, start_after, end_above-behind, IsListed, listed_parts, listed_from, Rises, at_end, next_below, list_rises, front_lists, back_lists}
+use Rattle.tab_page.proofs.OnePageLaws.{pair_of, key_lt_in_table, start_after, end_above-behind, IsListed, listed_parts, listed_from, Rises, at_end, next_below, list_rises, front_lists, back_lists}
 
 -- ---- how much a page leaves
 
@@ -105,11 +105,11 @@ token_from : (table : ℕ) (all : WindowView) (start : Key) (end : Bound) → is
     → (token : List ℕ × List ℕ) → next_of table all end back ≡ Some token → key_lt (key_at table token) start ≡ false
 token_from table all start end behind (first ∷ back) b token h =
     let listed = b first (Contains-here first back) in
-    let same : first.key ≡ key_at table (place_of first.key) = λ i. record { table = listed.in_table i; pk = first.key.pk; rk = first.key.rk } in
-    subst (λ place. key_lt (key_at table place) start ≡ false) (same_Some (place_of first.key) token h) (subst (λ key. key_lt key start ≡ false) same listed.from)
+    let same : first.key ≡ key_at table (pair_of first.key) = λ i. record { table = listed.in_table i; pk = first.key.pk; rk = first.key.rk } in
+    subst (λ pair. key_lt (key_at table pair) start ≡ false) (same_Some (pair_of first.key) token h) (subst (λ key. key_lt key start ≡ false) same listed.from)
 token_from table all start end behind [] b token h =
     let at = at_end table all end token h in
-    subst (λ place. key_lt (key_at table place) start ≡ false) (sym at.2) (key_lt_asymmetric start (head_key table at.0) (subst (λ e. is_before start e ≡ true) at.1 behind))
+    subst (λ pair. key_lt (key_at table pair) start ≡ false) (sym at.2) (key_lt_asymmetric start (head_key table at.0) (subst (λ e. is_before start e ≡ true) at.1 behind))
 
 -- what a page uses up: its matches, the rows that it may look at, or the bound at which it ends
 abbrev pub UsesUp : ℕ → ℕ → List Bound → List RowView → ℕ → Options → Options → Type 0
@@ -212,7 +212,7 @@ module _ (rows : List RowView) (rising : AreRising rows) (table : ℕ) (options 
   end_used ever within none =
       let at = at_end table (window options) end token (subst (λ back. next_of table (window options) end back ≡ Some token) none next) in
       let fails : is_before (start_key table later) end ≡ false =
-      subst (λ bound. is_before (start_key table later) bound ≡ false) (sym at.1) (subst (λ place. key_lt (start_key table later) (key_at table place) ≡ false) at.2 later_after) in
+      subst (λ bound. is_before (start_key table later) bound ≡ false) (sym at.1) (subst (λ pair. key_lt (start_key table later) (key_at table pair) ≡ false) at.2 later_after) in
       count_lt (is_before (start_key table options)) (is_before (start_key table later)) bound_passes ever end within behind fails
 
 pub page_uses_up : (rows : List RowView) → AreRising rows → (bounds : List Bound) (table : ℕ) (options : Options) (ever : List Bound) → All (Contains ever) bounds

@@ -15,11 +15,11 @@ module _ {X : Type 0} where
   Contains-there x y xs h = (suc h.0, (let below : h.0 < length xs = h.1 in omega arith), h.2)
 
   pub Contains-cons_cases : (x y : X) (xs : List X) → Contains (x ∷ xs) y → (x ≡ y) ⊎ Contains xs y
-  Contains-cons_cases x y xs h = by_place h.0 h.1 h.2
+  Contains-cons_cases x y xs h = by_index h.0 h.1 h.2
     where
-      by_place : (k : ℕ) → k < length (x ∷ xs) → get_or (x ∷ xs) k y ≡ y → (x ≡ y) ⊎ Contains xs y
-      by_place zero within e = inl e
-      by_place (suc k) within e = inr (k, omega arith, e)
+      by_index : (k : ℕ) → k < length (x ∷ xs) → get_or (x ∷ xs) k y ≡ y → (x ≡ y) ⊎ Contains xs y
+      by_index zero within e = inl e
+      by_index (suc k) within e = inr (k, omega arith, e)
 
   pub Contains-nil : (y : X) → Contains [] y → ⊥
   Contains-nil y h = let below : h.0 < 0 = h.1 in omega arith
@@ -43,7 +43,7 @@ module _ {X : Type 0} where
           by_test rest true k = ⊎_elim (λ same. subst (λ z. Contains (y ∷ ys) z) same (Contains-here y ys)) (λ later. Contains-there y x ys (rest later)) (Contains-cons_cases y x (filter p ys) k)
           by_test rest false k = Contains-there y x ys (rest k)
 
-  -- an element stands before a place or behind it
+  -- an element stands before an index or behind it
   pub Contains-cut : (n : ℕ) (xs : List X) (x : X) → Contains xs x → Contains (take n xs) x ⊎ Contains (drop n xs) x
   Contains-cut n xs x h = Contains-append_cases (take n xs) (drop n xs) x (subst (λ ys. Contains ys x) (sym (take-append-drop n xs)) h)
 

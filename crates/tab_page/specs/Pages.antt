@@ -39,7 +39,7 @@ window options = window_for options.filter
 
 -- the key of a table at a partition key and a row key
 abbrev pub key_at : ℕ → List ℕ × List ℕ → Key
-key_at table place = record { table = table; pk = place.0; rk = place.1 }
+key_at table pair = record { table = table; pk = pair.0; rk = pair.1 }
 
 -- the one of two keys that stands last
 abbrev pub later_key : Key → Key → Key

@@ -26,7 +26,7 @@ impl Options {
             filter: copied_filter(alloc, &self.filter)?,
             select: self.select.try_copy(alloc)?,
             top: self.top,
-            start: copied_place(alloc, &self.start)?,
+            start: copied_pair(alloc, &self.start)?,
         })
     }
 }
@@ -87,7 +87,7 @@ impl Page {
     {
         Ok(Page {
             rows: self.rows.try_copy(alloc)?,
-            next: copied_place(alloc, &self.next)?,
+            next: copied_pair(alloc, &self.next)?,
             end: self.end.try_copy(alloc)?,
         })
     }
@@ -102,14 +102,14 @@ fn copied_filter(alloc: Global, filter: &Option<Filter>) -> Result<Option<Filter
     }
 }
 
-/// A copy of the place of a partition key and a row key.
-fn copied_place(
+/// A copy of a pair of a partition key and a row key.
+fn copied_pair(
     alloc: Global,
-    place: &Option<(KeyText, KeyText)>,
+    pair: &Option<(KeyText, KeyText)>,
 ) -> Result<Option<(KeyText, KeyText)>, Memory>
-    ensures { IfOk result (λ copy. copy ≡ place.now) }
+    ensures { IfOk result (λ copy. copy ≡ pair.now) }
 {
-    match place {
+    match pair {
         None => Ok(None),
         Some((pk, rk)) => Ok(Some((pk.try_copy(alloc)?, rk.try_copy(alloc)?))),
     }

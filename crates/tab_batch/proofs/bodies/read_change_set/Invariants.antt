@@ -7,7 +7,7 @@ abbrev pub invariant-loop-line : goal.invariant-loop-line
 invariant-loop-line l = record {
   within : l.at ≤ length l.bytes;
   below : SectionBelow l.at l.section;
-  left : in_change_set l.boundary l.bytes l.inner [] Before l.start ≡ in_change_set l.boundary l.bytes l.inner l.section.ranges.items l.section.place l.at;
+  left : in_change_set l.boundary l.bytes l.inner [] Before l.start ≡ in_change_set l.boundary l.bytes l.inner l.section.ranges.items l.section.state l.at;
 }
 
 abbrev pub decreases-loop-line : goal.decreases-loop-line

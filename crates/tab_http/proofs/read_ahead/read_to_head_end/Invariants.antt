@@ -7,7 +7,7 @@ abbrev pub invariant-loop-piece : goal.invariant-loop-piece
 invariant-loop-piece g l = record {
   gathered : Gathered (g.S.Source.left l.fn.source) (g.S.Source.left l.source) l.fn.carry.items l.carry.items;
   seen : l.seen ≤ vec_len l.carry;
-  place : l.place ≡ state_after (take l.seen l.carry.items);
+  state : l.state ≡ state_after (take l.seen l.carry.items);
   later : g.S.Source.faults l.fn.source ≤ g.S.Source.faults l.source;
   beside : g.S.Source.beside l.source ≡ g.S.Source.beside l.fn.source;
 }
