@@ -7,7 +7,7 @@ use Rattle.std.specs.List.{All}
 use Rattle.std.specs.Option.{option_or}
 use Rattle.tab_edm.specs.Entities.{refused, property_refusal, first_refusal, entity_refusal, entity_size, made}
 use Rattle.tab_edm.specs.declared.values.Property.{Property}
-use Rattle.tab_edm.specs.declared.values.Fault.{Fault}
+use Rattle.tab_edm.specs.declared.values.PropertyFault.{PropertyFault}
 use Rattle.tab_edm.specs.declared.entities.EdmRefused.{EdmRefused}
 use Rattle.tab_edm.specs.declared.entities.EdmRefused.TheVariants.{TooMany, TooLarge}
 
@@ -20,7 +20,7 @@ pub passes : (ps : List Property) (i : ℕ) (p : Property) → i < length ps →
 passes ps i p h is none so_far = so_far ∙ first_refusal-drop ps i p h ∙ rw (← is, none) refl
 
 -- the first with a fault decides
-pub stops : (ps : List Property) (i : ℕ) (p d : Property) (fault : Fault) → i < length ps → p ≡ get_or ps i p → property_refusal p ≡ Some (refused fault p) → first_refusal ps ≡ first_refusal (drop i ps) → first_refusal ps ≡ Some (refused fault (get_or ps i d))
+pub stops : (ps : List Property) (i : ℕ) (p d : Property) (fault : PropertyFault) → i < length ps → p ≡ get_or ps i p → property_refusal p ≡ Some (refused fault p) → first_refusal ps ≡ first_refusal (drop i ps) → first_refusal ps ≡ Some (refused fault (get_or ps i d))
 stops ps i p d fault h is some so_far =
     let here : p ≡ get_or ps i d = is ∙ get_or_default ps i p d h in
     so_far ∙ first_refusal-drop ps i d h ∙ rw (← here, some) refl
@@ -46,7 +46,7 @@ unfolding first_refusal
 passed_all ps i h so_far = so_far ∙ rw (h, drop-length ps) refl
 
 -- the first refusal, as it is told of a list that was lent, with the property taken out
-pub told : (ps lent : List Property) (i : ℕ) (fault : Fault) (p : Property) (why : EdmRefused) → lent ≡ ps → ((d : Property) → first_refusal lent ≡ Some (refused fault (get_or lent i d))) → p ≡ get_or ps i p → why ≡ refused fault p → first_refusal ps ≡ Some why
+pub told : (ps lent : List Property) (i : ℕ) (fault : PropertyFault) (p : Property) (why : EdmRefused) → lent ≡ ps → ((d : Property) → first_refusal lent ≡ Some (refused fault (get_or lent i d))) → p ≡ get_or ps i p → why ≡ refused fault p → first_refusal ps ≡ Some why
 told ps lent i fault p why same first here is =
     let taken : get_or lent i p ≡ p = rw same (sym here) in
     ap first_refusal (sym same) ∙ first p ∙ rw (taken, is) refl

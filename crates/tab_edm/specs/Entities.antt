@@ -7,7 +7,7 @@ use Rattle.tab_edm.specs.Texts.{char_count}
 use Rattle.tab_edm.specs.Values.{is_valid_name, is_small, IsInTime, property_size, is_reserved}
 use Rattle.tab_edm.specs.declared.values.Property.{Property}
 use Rattle.tab_edm.specs.declared.values.Value.{Value}
-use Rattle.tab_edm.specs.declared.values.Fault.{Fault}
+use Rattle.tab_edm.specs.declared.values.PropertyFault.{PropertyFault}
 use Rattle.tab_edm.specs.declared.entities.EdmRefused.{EdmRefused}
 use Rattle.tab_edm.specs.declared.entities.EdmRefused.TheVariants.{NameInvalid, NameTooLong, ValueTooLarge, TooMany, TooLarge}
 
@@ -30,10 +30,10 @@ unfoldable pub entity_size : ℕ → ℕ → List Property → ℕ
 entity_size pk_units rk_units properties = 4 + 2 * (pk_units + rk_units) + sum_by property_size properties
 
 -- a property with a fault as a refusal
-abbrev pub refused : Fault → Property → EdmRefused
-refused Fault.NameInvalid p = NameInvalid p
-refused Fault.NameTooLong p = NameTooLong p
-refused Fault.ValueTooLarge p = ValueTooLarge p
+abbrev pub refused : PropertyFault → Property → EdmRefused
+refused PropertyFault.NameInvalid p = NameInvalid p
+refused PropertyFault.NameTooLong p = NameTooLong p
+refused PropertyFault.ValueTooLarge p = ValueTooLarge p
 
 -- what is wrong with one property
 unfoldable pub property_refusal : Property → Option EdmRefused
@@ -59,14 +59,14 @@ pub record IsEntity (pk_units rk_units : ℕ) (properties : List Property) : Typ
   pub allowed : entity_refusal pk_units rk_units properties ≡ None
 
 -- the entity, or why there is none
-abbrev pub unless_refused : EntityView → Option EdmRefused → Result EntityView EdmRefused
-unless_refused entity None = Ok entity
-unless_refused entity (Some why) = Err why
+abbrev pub entity_or_refusal : EntityView → Option EdmRefused → Result EntityView EdmRefused
+entity_or_refusal entity None = Ok entity
+entity_or_refusal entity (Some why) = Err why
 
 -- what is made of properties in rising order of their names, want of memory aside
 unfoldable pub made : ℕ → ℕ → List Property → Result EntityView EdmRefused
 made pk_units rk_units properties =
-    unless_refused (record { properties = properties; pk_units = pk_units; rk_units = rk_units }) (entity_refusal pk_units rk_units properties)
+    entity_or_refusal (record { properties = properties; pk_units = pk_units; rk_units = rk_units }) (entity_refusal pk_units rk_units properties)
 
 -- the value of the property with this name
 unfoldable pub value_of : List ℕ → List Property → Option Value

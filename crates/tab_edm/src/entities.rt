@@ -4,7 +4,7 @@ ghost use Rattle.std.specs.Option.{option_copied};
 ghost use Rattle.tab_edm.specs.Values.{is_reserved, IsInTime};
 ghost use Rattle.tab_edm.specs.Entities.{IsEntity, IsRising, refused, first_refusal, entity_size, made, value_of};
 
-use crate::values::Fault;
+use crate::values::PropertyFault;
 use crate::{Memory, Property, Value};
 use std::alloc::Global;
 use std::marker::Model;
@@ -156,7 +156,7 @@ fn sorted_by_name(mut properties: Vec<Property>) -> Vec<Property>
 }
 
 /// The first property with a fault.
-fn first_fault(properties: &[Property]) -> Option<(usize, Fault)>
+fn first_fault(properties: &[Property]) -> Option<(usize, PropertyFault)>
     ensures { MatchOption result (first_refusal properties.now ≡ None)
         (λ found. (found.0 < length properties.now)
         × ((d : Property) → first_refusal properties.now ≡ Some (refused found.1 (slice_index_or properties.now found.0 d)))) }
@@ -169,13 +169,13 @@ fn first_fault(properties: &[Property]) -> Option<(usize, Fault)>
     None
 }
 
-fn refused(fault: Fault, property: Property) -> EdmRefused
+fn refused(fault: PropertyFault, property: Property) -> EdmRefused
     ensures { result ≡ refused fault property }
 {
     match fault {
-        Fault::NameInvalid => EdmRefused::NameInvalid(property),
-        Fault::NameTooLong => EdmRefused::NameTooLong(property),
-        Fault::ValueTooLarge => EdmRefused::ValueTooLarge(property),
+        PropertyFault::NameInvalid => EdmRefused::NameInvalid(property),
+        PropertyFault::NameTooLong => EdmRefused::NameTooLong(property),
+        PropertyFault::ValueTooLarge => EdmRefused::ValueTooLarge(property),
     }
 }
 

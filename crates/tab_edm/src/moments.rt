@@ -239,7 +239,7 @@ fn read_number(digits: &[u8]) -> Option<u32>
     Some(n)
 }
 
-/// Whether a piece stands at a place of a text.
+/// Whether a piece stands at an offset of a text.
 fn has_at(text: &[u8], at: usize, piece: &[u8]) -> bool
     requires { at + length piece.now ≤ length text.now }
     ensures { IsTrue result ↔ (take (length piece.now) (drop at text.now) ≡ piece.now) }

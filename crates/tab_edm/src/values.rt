@@ -93,16 +93,16 @@ impl Property {
 
     /// The first limit that it breaks.
     #[tactic(auto, unfolding(crate::specs::Entities::property_refusal))]
-    pub(crate) fn fault(&self) -> Option<Fault>
+    pub(crate) fn fault(&self) -> Option<PropertyFault>
         ensures { property_refusal self.now ≡ option_map (λ fault. refused fault self.now) result }
     {
         let name = self.name.as_str();
         if !is_identifier(name) {
-            Some(Fault::NameInvalid)
+            Some(PropertyFault::NameInvalid)
         } else if char_count(name) > 255 {
-            Some(Fault::NameTooLong)
+            Some(PropertyFault::NameTooLong)
         } else if !self.value.is_small() {
-            Some(Fault::ValueTooLarge)
+            Some(PropertyFault::ValueTooLarge)
         } else {
             None
         }
@@ -121,7 +121,7 @@ impl Property {
 
 /// What may be wrong with one property.
 #[derive(Clone, Copy, Debug, PartialEq, Eq)]
-pub enum Fault {
+pub enum PropertyFault {
     NameInvalid,
     NameTooLong,
     ValueTooLarge,

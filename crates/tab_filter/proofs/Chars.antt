@@ -2,7 +2,7 @@
 use Rattle.std.proofs.Common.{◌≡◌, ℕ, ◌<◌, Bool, true, false, ◌||◌, ◌==◌, ap, lit<}
 use Rattle.std.specs.Char.{is_ascii_alphabetic, is_ascii_alphanumeric}
 use Rattle.unicode_ident.proofs.IdentLemmas.{is_xid_start-ascii, is_xid_continue-ascii}
-use Rattle.tab_filter.specs.Words.{begins, continues}
+use Rattle.tab_filter.specs.Lexer.{begins, continues}
 
 begins_ascii : (c : ℕ) → c < 128 → begins c ≡ (is_ascii_alphabetic c || c == 95)
 unfolding begins

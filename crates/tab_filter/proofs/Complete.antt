@@ -4,27 +4,27 @@ use Rattle.std.specs.Prelude.{codes, nat_le}
 use Rattle.std.proofs.lemmas.Bool.{leb-true}
 use Rattle.tab_edm.specs.declared.values.Value.{Value}
 use Rattle.tab_filter.specs.declared.trees.Operator.{Operator}
-use Rattle.tab_filter.specs.declared.words.Joint.{Joint}
-use Rattle.tab_filter.specs.declared.words.Joint.TheVariants.{And, Or, Neither}
+use Rattle.tab_filter.specs.declared.lexer.Joint.{Joint}
+use Rattle.tab_filter.specs.declared.lexer.Joint.TheVariants.{And, Or, Neither}
 use Rattle.tab_filter.specs.Trees.{Negation, Both, Either}
-use Rattle.tab_filter.specs.Words.{Read, TooMany, ◌>>=◌, gap_at, is_not, operator_named, joint_at}
-use Rattle.tab_filter.specs.Parts.{Part, All, Any, compared, room_at, operation_at, operand_at, negated, not_name, Inner, part_at, ambiguous_at, second_at, sole_operator, all_at, any_at, inner_at}
+use Rattle.tab_filter.specs.Lexer.{Read, TooMany, ◌>>=◌, gap_at, is_not, operator_named, joint_at}
+use Rattle.tab_filter.specs.Parser.{PartView, AllView, AnyView, compared, room_at, operation_at, operand_at, negated, not_name, Inner, part_at, ambiguous_at, second_at, sole_operator, all_at, any_at, inner_at}
 use Rattle.tab_filter.specs.Grammar.{ends_token, IsLiteral, IsName, Phrase, Comparing, Group, Negated, Joined, Parted, blank, operator_text, text_of, tree_at, opens, closes, comparisons, unary, conjunction, disjunction, Fits, Nests, IsGap}
 use Rattle.tab_filter.proofs.LiteralLaws.{literal_complete, literal_no_space, literal_begins}
-use Rattle.tab_filter.proofs.WordLaws.{starts-blank, after_blank, gap_complete, edge_complete, ends_name-blank, ends_name-gap, NameRead, name_read, name_complete, name_no_opening, not_is_name, is_not-not, is_not-is, letters, letters-text, letters_are_name, operator_named-letters, is_not-letters, operator_complete, operator_no_space, operator_no_opening, operator_no_literal, and_complete, or_complete, neither_complete}
+use Rattle.tab_filter.proofs.LexerLaws.{starts-blank, after_blank, gap_complete, edge_complete, ends_name-blank, ends_name-gap, NameRead, name_read, name_complete, name_no_opening, not_is_name, is_not-not, is_not-is, letters, letters-text, letters_are_name, operator_named-letters, is_not-letters, operator_complete, operator_no_space, operator_no_opening, operator_no_literal, and_complete, or_complete, neither_complete}
 use Rattle.tab_filter.proofs.Phrases.{text_begins, some_comparison}
 
 -- what may follow a part: anything behind a `)`, and else the end of a token
 abbrev pub Follows : Bool → List ℕ → Type 0
 Follows closed r = (closed || ends_token r) ≡ true
 
-abbrev done : Part × List ℕ → Read Part
+abbrev done : PartView × List ℕ → Read PartView
 done x = Ok x
 
-abbrev all_done : All × List ℕ → Read All
+abbrev all_done : AllView × List ℕ → Read AllView
 all_done x = Ok x
 
-abbrev any_done : Any × List ℕ → Read Any
+abbrev any_done : AnyView × List ℕ → Read AnyView
 any_done x = Ok x
 
 -- ---- comparisons
@@ -78,22 +78,22 @@ comparing_complete most n d used name a o b value s r hn ha hb l e h =
     let rest = operator_text o (blank b (s ++ r)) in
     let text = name ++ blank a rest in
     rw (name_no_opening name (blank a rest) hn, name_complete name (blank a rest) hn (ends_name-blank a rest ha))
-    (elim (is_not name) as (λ v. is_not name ≡ v → cond {A = Read Part} v (inner_at most n d true used text (blank a rest)) (gap_at (blank a rest) >>= λ g. operation_at most used name g.1) ≡ Ok (compared name o value used, r)) [
+    (elim (is_not name) as (λ v. is_not name ≡ v → cond {A = Read PartView} v (inner_at most n d true used text (blank a rest)) (gap_at (blank a rest) >>= λ g. operation_at most used name g.1) ≡ Ok (compared name o value used, r)) [
       | true ↦ λ is. not_complete most n d used text a o b value s r ha hb l e h ∙ ap (λ (w : List ℕ). done (compared w o value used, r)) (sym (is_not-is name is))
       | false ↦ λ is. rw (gap_complete a rest ha (operator_no_space o (blank b (s ++ r)))) (operation_complete most used name o b value s r hb l e h)
     ] refl)
 
 -- ---- phrases
-abbrev part_of : Phrase → ℕ → Part
+abbrev part_of : Phrase → ℕ → PartView
 part_of c used = record { tree = tree_at c; closed = closes c; used = used + comparisons c }
 
-abbrev negated_of : Phrase → ℕ → Part
+abbrev negated_of : Phrase → ℕ → PartView
 negated_of c used = record { tree = Negation (tree_at c); closed = closes c; used = used + comparisons c }
 
-abbrev all_of : Phrase → Joint → ℕ → All
+abbrev all_of : Phrase → Joint → ℕ → AllView
 all_of c joint used = record { tree = tree_at c; joint = joint; used = used + comparisons c }
 
-abbrev pub any_of : Phrase → ℕ → Any
+abbrev pub any_of : Phrase → ℕ → AnyView
 any_of c used = record { tree = tree_at c; used = used + comparisons c }
 
 pub record Complete (c : Phrase) : Type 0 where
@@ -128,7 +128,7 @@ comparing_second most n d used name a o b value s r hn ha hb l e h =
     let rest = operator_text o (blank b (s ++ r)) in
     let text = name ++ blank a rest in
     rw (name_no_opening name (blank a rest) hn, name_complete name (blank a rest) hn (ends_name-blank a rest ha))
-    (elim (is_not name) as (λ v. is_not name ≡ v → cond {A = Read Part} v (negated (inner_at most n d true used text (blank a rest))) (gap_at (blank a rest) >>= λ g. ambiguous_at most (operator_named name) used name g.1) ≡ negated (Ok (compared name o value used, r))) [
+    (elim (is_not name) as (λ v. is_not name ≡ v → cond {A = Read PartView} v (negated (inner_at most n d true used text (blank a rest))) (gap_at (blank a rest) >>= λ g. ambiguous_at most (operator_named name) used name g.1) ≡ negated (Ok (compared name o value used, r))) [
       | true ↦ λ is. ap negated (not_complete most n d used text a o b value s r ha hb l e h ∙ ap (λ (w : List ℕ). done (compared w o value used, r)) (sym (is_not-is name is)))
       | false ↦ λ is. rw (gap_complete a rest ha (operator_no_space o (blank b (s ++ r))))
           (elim (operator_named name) as (λ v. ambiguous_at most v used name rest ≡ negated (Ok (compared name o value used, r))) [

@@ -2,33 +2,33 @@
 use Rattle.std.proofs.Common.{◌≡◌, ◌⊎◌, inl, inr, ℕ, zero, suc, ◌+◌, ◌≤◌, List, [], ◌∷◌, ◌++◌, length, Bool, true, false, Ok, Err, Result, refl, ap, sym, subst, ◌∙◌, arith, append_assoc, append-nil, length-append}
 use Rattle.std.specs.Prelude.{IsUtf8, chars, encode_utf8_all, IfOk, IfErr}
 use Rattle.std.proofs.lemmas.Str.{encodes-chars, encodes-append}
-use Rattle.tab_filter.specs.declared.parsing.FilterRefused.{FilterRefused}
-use Rattle.tab_filter.specs.declared.parsing.FilterRefused.TheVariants as refusals
+use Rattle.tab_filter.specs.declared.filter_text.FilterRefused.{FilterRefused}
+use Rattle.tab_filter.specs.declared.filter_text.FilterRefused.TheVariants as refusals
 use Rattle.tab_filter.specs.Trees.{Tree}
-use Rattle.tab_filter.specs.Words.{Read, Fault, Syntax, BadLiteral, Deep, TooMany, after_spaces}
-use Rattle.tab_filter.specs.Parts.{Any, part_at, inner_at, any_at, whole_of, whole_at, filter_at}
+use Rattle.tab_filter.specs.Lexer.{Read, ParseFault, Syntax, BadLiteral, Deep, TooMany, after_spaces}
+use Rattle.tab_filter.specs.Parser.{AnyView, part_at, inner_at, any_at, whole_of, whole_at, filter_at}
 use Rattle.tab_filter.specs.Grammar.{Phrase, Comparing, Group, Negated, Joined, Parted, blank, text_of, closes, comparisons, disjunction, Fits, Nests, Spells, SpellsWithin, IsFront, NoFurther, IsDue, NoLiteral}
-use Rattle.tab_filter.specs.Places.{place_of, refusal_of, ErrIs, Answers, IsRefused, IsTree}
-use Rattle.tab_filter.proofs.WordLaws.{after_blank, neither_complete}
+use Rattle.tab_filter.specs.Offsets.{offset_of, refusal_of, ErrIs, Answers, IsRefused, IsTree}
+use Rattle.tab_filter.proofs.LexerLaws.{after_blank, neither_complete}
 use Rattle.tab_filter.proofs.Phrases.{blank_append, text_begins}
 use Rattle.tab_filter.proofs.Complete.{Follows, complete, any_of}
 use Rattle.tab_filter.proofs.Sound.{Sound, spaces}
 use Rattle.tab_filter.proofs.SoundPhrases.{AnyText, filter_parts_sound}
 use Rattle.tab_filter.proofs.Same.{found, done, halted, done_is, err_no_ok, Same, same_bind}
-use Rattle.tab_filter.proofs.SameWords.{spaces_at, same_spaces}
-use Rattle.tab_filter.proofs.SameParts.{inner_same, same_part, same_any}
+use Rattle.tab_filter.proofs.SameLexer.{spaces_at, same_spaces}
+use Rattle.tab_filter.proofs.SameParser.{inner_same, same_part, same_any}
 
 -- ---- the parts of a whole text
-abbrev parts_at : ℕ → ℕ → ℕ → List ℕ → Read Any
+abbrev parts_at : ℕ → ℕ → ℕ → List ℕ → Read AnyView
 parts_at most parts depth t = any_at (part_at most (inner_at most parts depth)) parts parts 0 (after_spaces t)
 
-abbrev answered : Result Tree Fault → Tree → Type 0
+abbrev answered : Result Tree ParseFault → Tree → Type 0
 answered r tree = r ≡ Ok tree
 
-abbrev faulted : Fault → Result Tree Fault
+abbrev faulted : ParseFault → Result Tree ParseFault
 faulted fault = Err fault
 
-abbrev treed : Tree → Result Tree Fault
+abbrev treed : Tree → Result Tree ParseFault
 treed tree = Ok tree
 
 tree_same : {a b : Tree} → treed a ≡ treed b → a ≡ b
@@ -40,21 +40,21 @@ syntax_same e = cc
 few_of : (c used : ℕ) → used ≡ 0 + c → used ≤ 15 → c ≤ 15
 few_of c used e h = omega arith
 
-fault_no_tree : {a : Fault} {b : Tree} → faulted a ≡ treed b → ⊥
+fault_no_tree : {a : ParseFault} {b : Tree} → faulted a ≡ treed b → ⊥
 fault_no_tree e = cc
 
-fault_same : {a b : Fault} → faulted a ≡ faulted b → a ≡ b
+fault_same : {a b : ParseFault} → faulted a ≡ faulted b → a ≡ b
 fault_same e = cc
 
-tree_no_fault : {a : Tree} {b : Fault} → treed a ≡ faulted b → ⊥
+tree_no_fault : {a : Tree} {b : ParseFault} → treed a ≡ faulted b → ⊥
 tree_no_fault e = cc
 
 -- ---- what is read is spelled so
-spelled_so : (most depth : ℕ) (k : Bool) (v : Any) (s t u : List ℕ) (n : ℕ) → AnyText most depth 0 k v s → t ≡ blank n s → Spells v.tree t
+spelled_so : (most depth : ℕ) (k : Bool) (v : AnyView) (s t u : List ℕ) (n : ℕ) → AnyText most depth 0 k v s → t ≡ blank n s → Spells v.tree t
 spelled_so most depth k v s t u n g is =
     record { phrase = g.phrase; fits = g.fits; tree_is = g.tree_is; before = n; after = g.after; is = is ∙ ap (blank n) g.is }
 
-whole_spelled : (t u : List ℕ) (n : ℕ) (r : Read Any) (tree : Tree) → t ≡ blank n u → Sound (AnyText 15 64 0) u r → whole_at r ≡ Ok tree → SpellsWithin tree t
+whole_spelled : (t u : List ℕ) (n : ℕ) (r : Read AnyView) (tree : Tree) → t ≡ blank n u → Sound (AnyText 15 64 0) u r → whole_at r ≡ Ok tree → SpellsWithin tree t
 unfolding spelled_so
 whole_spelled t u n (Err e) tree is sound h = absurd (fault_no_tree h)
 whole_spelled t u n (Ok x) tree is sound h = by_left x.1 sound.2 h
@@ -75,11 +75,11 @@ unfolding filter_at
 filter_spelled t tree h =
     let n = spaces t in whole_spelled t (after_spaces t) n.0 (parts_at 15 16 64 t) tree n.1 (filter_parts_sound 15 16 64 0 (after_spaces t)) h
 
--- ---- a front stands before the place
+-- ---- a front stands before what is left
 front_of_text : (t u : List ℕ) (n : ℕ) (p left : List ℕ) → t ≡ blank n u → u ≡ p ++ left → t ≡ blank n p ++ left
 front_of_text t u n p left is split = is ∙ ap (blank n) split ∙ blank_append n p left
 
-whole_front : (t u : List ℕ) (n : ℕ) (r : Read Any) (left : List ℕ) → t ≡ blank n u → Sound (AnyText 15 64 0) u r → whole_at r ≡ faulted (Syntax left) → (front : List ℕ) × (t ≡ front ++ left) × IsFront front
+whole_front : (t u : List ℕ) (n : ℕ) (r : Read AnyView) (left : List ℕ) → t ≡ blank n u → Sound (AnyText 15 64 0) u r → whole_at r ≡ faulted (Syntax left) → (front : List ℕ) × (t ≡ front ++ left) × IsFront front
 whole_front t u n (Ok x) left is sound h = by_left x.1 sound.2 h
   where
     by_left : (rest : List ℕ) → u ≡ sound.0 ++ rest → whole_of x.0 rest ≡ faulted (Syntax left) → (front : List ℕ) × (t ≡ front ++ left) × IsFront front
@@ -115,7 +115,7 @@ filter_front t left h =
     let n = spaces t in whole_front t (after_spaces t) n.0 (parts_at 15 16 64 t) left n.1 (filter_parts_sound 15 16 64 0 (after_spaces t)) h
 
 -- ---- a literal is due, and none stands there
-whole_due : (t u : List ℕ) (n : ℕ) (r : Read Any) (left : List ℕ) → t ≡ blank n u → Sound (AnyText 15 64 0) u r → whole_at r ≡ faulted (BadLiteral left) → (front : List ℕ) × (t ≡ front ++ left) × IsDue front × NoLiteral left
+whole_due : (t u : List ℕ) (n : ℕ) (r : Read AnyView) (left : List ℕ) → t ≡ blank n u → Sound (AnyText 15 64 0) u r → whole_at r ≡ faulted (BadLiteral left) → (front : List ℕ) × (t ≡ front ++ left) × IsDue front × NoLiteral left
 whole_due t u n (Ok x) left is sound h = absurd (by_left x.1 h)
   where
     by_left : (rest : List ℕ) → whole_of x.0 rest ≡ faulted (BadLiteral left) → ⊥
@@ -171,7 +171,7 @@ filter_complete t tree s =
     let p = s.spelled in
     ap (λ (l : List ℕ). whole_at (parts_at 15 16 64 l)) p.is ∙ ap whole_at (phrase_read 15 16 64 p.phrase p.before p.after p.fits s.nests s.few (omega arith)) ∙ ap tree_answer (sym p.tree_is)
   where
-    tree_answer : Tree → Result Tree Fault
+    tree_answer : Tree → Result Tree ParseFault
     tree_answer t = Ok t
 
 -- ---- and nothing goes further
@@ -210,16 +210,16 @@ same_parts most more parts pieces d e h i j =
     (λ _ _ _. same_any (part_at most (inner_at most parts d)) (part_at more (inner_at more pieces e)) (λ used. same_part most more used (inner_at most parts d) (inner_at more pieces e) h (inner_same most more parts pieces d e h i j)) parts pieces parts pieces 0 i i)
 
 -- where the whole stops
-stopped_at : (r : Read Any) (b : ℕ) (bs : List ℕ) → whole_at r ≡ faulted (Syntax (b ∷ bs)) → (r ≡ halted Any (Syntax (b ∷ bs))) ⊎ ((v : Any) × (r ≡ found v (b ∷ bs)))
-stopped_at (Err e) b bs h = inl (ap (halted Any) (fault_same h))
+stopped_at : (r : Read AnyView) (b : ℕ) (bs : List ℕ) → whole_at r ≡ faulted (Syntax (b ∷ bs)) → (r ≡ halted AnyView (Syntax (b ∷ bs))) ⊎ ((v : AnyView) × (r ≡ found v (b ∷ bs)))
+stopped_at (Err e) b bs h = inl (ap (halted AnyView) (fault_same h))
 stopped_at (Ok x) b bs h = by_left x.1 h refl
   where
-    by_left : (rest : List ℕ) → whole_of x.0 rest ≡ faulted (Syntax (b ∷ bs)) → x.1 ≡ rest → (done x ≡ halted Any (Syntax (b ∷ bs))) ⊎ ((v : Any) × (done x ≡ found v (b ∷ bs)))
+    by_left : (rest : List ℕ) → whole_of x.0 rest ≡ faulted (Syntax (b ∷ bs)) → x.1 ≡ rest → (done x ≡ halted AnyView (Syntax (b ∷ bs))) ⊎ ((v : AnyView) × (done x ≡ found v (b ∷ bs)))
     by_left [] h e = absurd (tree_no_fault h)
     by_left (c ∷ cs) h e = inr (x.0, ap (found x.0) (e ∙ syntax_same (fault_same h)))
 
-some_left : (v w : Any) (b : ℕ) (bs : List ℕ) → found v (b ∷ bs) ≡ done (w, []) → ⊥
-some_left v w b bs e = let left = ap (λ (x : Any × List ℕ). length x.1) (done_is e) in absurd (omega arith)
+some_left : (v w : AnyView) (b : ℕ) (bs : List ℕ) → found v (b ∷ bs) ≡ done (w, []) → ⊥
+some_left v w b bs e = let left = ap (λ (x : AnyView × List ℕ). length x.1) (done_is e) in absurd (omega arith)
 
 pub filter_no_further : (front : List ℕ) (b : ℕ) (bs : List ℕ) → filter_at (front ++ b ∷ bs) ≡ faulted (Syntax (b ∷ bs)) → NoFurther front (b ∷ bs)
 unfolding filter_at
@@ -245,7 +245,7 @@ pub answers_spelled : (text : List ℕ) (cs : List ℕ) (result : Result Tree Fi
 answers_spelled text cs (Ok tree) h = filter_spelled cs tree h
 answers_spelled text cs (Err e) h = tt
 
-err_is_none : (text : List ℕ) (refused : FilterRefused) (tree : Tree) (r : Result Tree Fault) → r ≡ Ok tree → ErrIs text refused r → ⊥
+err_is_none : (text : List ℕ) (refused : FilterRefused) (tree : Tree) (r : Result Tree ParseFault) → r ≡ Ok tree → ErrIs text refused r → ⊥
 err_is_none text refused tree r e h = subst (ErrIs text refused) e h
 
 pub answers_only : (text : List ℕ) (cs : List ℕ) (result : Result Tree FilterRefused) → Answers text result (filter_at cs) → (tree : Tree) → SpellsWithin tree cs → IsTree tree result
@@ -255,31 +255,31 @@ answers_only text cs (Err (refusals.Syntax at)) h tree s = absurd (err_is_none t
 answers_only text cs (Err (refusals.BadLiteral at)) h tree s = absurd (err_is_none text (refusals.BadLiteral at) tree (filter_at cs) (filter_complete cs tree s) h)
 answers_only text cs (Err refusals.TooManyComparisons) h tree s = absurd (err_is_none text refusals.TooManyComparisons tree (filter_at cs) (filter_complete cs tree s) h)
 
--- the place of what is left, by what is before it
-place_is : (text front left : List ℕ) → IsUtf8 text → chars text ≡ front ++ left → place_of text left ≡ length (encode_utf8_all front)
-place_is text front left utf8 is =
+-- the offset of what is left, by what is before it
+offset_is : (text front left : List ℕ) → IsUtf8 text → chars text ≡ front ++ left → offset_of text left ≡ length (encode_utf8_all front)
+offset_is text front left utf8 is =
     let bytes : text ≡ encode_utf8_all front ++ encode_utf8_all left = sym (encodes-chars text utf8) ∙ ap encode_utf8_all is ∙ encodes-append front left in
     omega (arith, ap length bytes, length-append (encode_utf8_all front) (encode_utf8_all left))
 
-fault_is : (text : List ℕ) (refused : FilterRefused) (r : Result Tree Fault) → ErrIs text refused r → (fault : Fault) × (r ≡ faulted fault) × (refused ≡ refusal_of text fault)
+fault_is : (text : List ℕ) (refused : FilterRefused) (r : Result Tree ParseFault) → ErrIs text refused r → (fault : ParseFault) × (r ≡ faulted fault) × (refused ≡ refusal_of text fault)
 fault_is text refused (Ok tree) h = absurd h
 fault_is text refused (Err fault) h = (fault, refl, h)
 
-placed_fault : (text : List ℕ) (fault : Fault) → IsUtf8 text → filter_at (chars text) ≡ faulted fault → IsRefused (chars text) (refusal_of text fault)
-placed_fault text (Syntax left) utf8 h =
+fault_at : (text : List ℕ) (fault : ParseFault) → IsUtf8 text → filter_at (chars text) ≡ faulted fault → IsRefused (chars text) (refusal_of text fault)
+fault_at text (Syntax left) utf8 h =
     let f = filter_front (chars text) left h in
-    inl (f.0, left, f.1, place_is text f.0 left utf8 f.1, (f.2, end_no_further (chars text) left f.0 f.1 h))
-placed_fault text (BadLiteral left) utf8 h =
-    let f = filter_due (chars text) left h in (f.0, left, f.1, place_is text f.0 left utf8 f.1, (f.2, f.3))
-placed_fault text (Deep left) utf8 h = inr ((left, h), λ tree s. fault_no_tree (sym h ∙ filter_complete (chars text) tree s))
-placed_fault text TooMany utf8 h = λ tree s. fault_no_tree (sym h ∙ filter_complete (chars text) tree s)
+    inl (f.0, left, f.1, offset_is text f.0 left utf8 f.1, (f.2, end_no_further (chars text) left f.0 f.1 h))
+fault_at text (BadLiteral left) utf8 h =
+    let f = filter_due (chars text) left h in (f.0, left, f.1, offset_is text f.0 left utf8 f.1, (f.2, f.3))
+fault_at text (Deep left) utf8 h = inr ((left, h), λ tree s. fault_no_tree (sym h ∙ filter_complete (chars text) tree s))
+fault_at text TooMany utf8 h = λ tree s. fault_no_tree (sym h ∙ filter_complete (chars text) tree s)
 
-pub answers_placed : (text : List ℕ) (result : Result Tree FilterRefused) → IsUtf8 text → Answers text result (filter_at (chars text)) → IfErr result (IsRefused (chars text))
-answers_placed text (Ok tree) utf8 h = tt
-answers_placed text (Err refusals.Memory) utf8 h = tt
-answers_placed text (Err (refusals.Syntax at)) utf8 h =
-    let f = fault_is text (refusals.Syntax at) (filter_at (chars text)) h in subst (IsRefused (chars text)) (sym f.2) (placed_fault text f.0 utf8 f.1)
-answers_placed text (Err (refusals.BadLiteral at)) utf8 h =
-    let f = fault_is text (refusals.BadLiteral at) (filter_at (chars text)) h in subst (IsRefused (chars text)) (sym f.2) (placed_fault text f.0 utf8 f.1)
-answers_placed text (Err refusals.TooManyComparisons) utf8 h =
-    let f = fault_is text refusals.TooManyComparisons (filter_at (chars text)) h in subst (IsRefused (chars text)) (sym f.2) (placed_fault text f.0 utf8 f.1)
+pub answers_refused : (text : List ℕ) (result : Result Tree FilterRefused) → IsUtf8 text → Answers text result (filter_at (chars text)) → IfErr result (IsRefused (chars text))
+answers_refused text (Ok tree) utf8 h = tt
+answers_refused text (Err refusals.Memory) utf8 h = tt
+answers_refused text (Err (refusals.Syntax at)) utf8 h =
+    let f = fault_is text (refusals.Syntax at) (filter_at (chars text)) h in subst (IsRefused (chars text)) (sym f.2) (fault_at text f.0 utf8 f.1)
+answers_refused text (Err (refusals.BadLiteral at)) utf8 h =
+    let f = fault_is text (refusals.BadLiteral at) (filter_at (chars text)) h in subst (IsRefused (chars text)) (sym f.2) (fault_at text f.0 utf8 f.1)
+answers_refused text (Err refusals.TooManyComparisons) utf8 h =
+    let f = fault_is text refusals.TooManyComparisons (filter_at (chars text)) h in subst (IsRefused (chars text)) (sym f.2) (fault_at text f.0 utf8 f.1)

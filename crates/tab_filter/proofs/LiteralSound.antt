@@ -8,7 +8,7 @@ use Rattle.std.proofs.lemmas.Slice.Eq.{bytes_eq-Decides}
 use Rattle.uuid.specs.Text.{parsed}
 use Rattle.tab_edm.specs.declared.values.Value.{Value}
 use Rattle.tab_edm.specs.declared.values.Value.TheVariants.{Text, Flag, Int32, Moment, Guid, Bytes}
-use Rattle.tab_filter.specs.Words.{Read, Fault, BadLiteral, starts, past_first, front_of, behind, is_plain, is_unquoted}
+use Rattle.tab_filter.specs.Lexer.{Read, ParseFault, BadLiteral, starts, past_first, front_of, behind, is_plain, is_unquoted}
 use Rattle.tab_filter.specs.Literals.{with_front, inside_at, is_digit, integer_of, long_at_end, goes_on, digits_value, starts_digit, some_digits, integer_value, plain_value, hex_pairs, moment_of, guid_of, number_behind, number_of, prefixed_value, given, quoted, token_at, closed_at, quote_at, word_at, literal_at}
 use Rattle.tab_filter.specs.Grammar.{Quoted, Whole, Truth, Dated, Identified, Short, Long, doubled, sign, long_mark, IsUnquoted, AreDigits, IsLiteral}
 use Rattle.tab_filter.proofs.Splits.{split_behind}
@@ -226,13 +226,13 @@ prefixed_found word inside value unquoted e =
     none_is e = cc
 
 -- ---- tokens
-abbrev erring : Fault → Read Value
+abbrev erring : ParseFault → Read Value
 erring fault = Err fault
 
 abbrev given_value : Value × List ℕ → Read Value
 given_value x = Ok x
 
-err_is_ok : (fault : Fault) (x : Value × List ℕ) → erring fault ≡ given_value x → ⊥
+err_is_ok : (fault : ParseFault) (x : Value × List ℕ) → erring fault ≡ given_value x → ⊥
 err_is_ok fault x e = cc
 
 -- a token that is no literal

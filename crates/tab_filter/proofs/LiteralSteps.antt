@@ -6,7 +6,7 @@ use Rattle.std.proofs.lemmas.Str.{encodes-append, length-encode}
 use Rattle.std.specs.Char.{len_utf8}
 use Rattle.std.specs.Prelude.{encode_utf8, encode_utf8_all, option_map}
 use Rattle.tab_edm.specs.declared.values.Value.TheVariants.{Guid}
-use Rattle.tab_filter.specs.Words.{starts, past_first}
+use Rattle.tab_filter.specs.Lexer.{starts, past_first}
 use Rattle.tab_filter.specs.Literals.{with_front, inside_at, with_byte, hex_byte, hex_pairs}
 
 -- ---- the bytes of a text's characters
@@ -91,9 +91,9 @@ pub differs : (a b : ℕ) → (a ≡ b → ⊥) → (a == b) ≡ false
 differs a b h =
     elim (a == b) as (λ v. (a == b) ≡ v → v ≡ false) [ true ↦ λ e. absurd (h ((Decides-eqb a b).0 e)) | false ↦ λ e. refl ] refl
 
--- ---- places
-pub place_more : (rest : List ℕ) (i whole at new c : ℕ) → i < length rest → at ≡ whole - length (encode_utf8_all (take i rest)) → c ≡ get_or rest i 0 → new ≡ at - len_utf8 c → new ≡ whole - length (encode_utf8_all (take (i + 1) rest))
-place_more rest i whole at new c h so_far is less =
+-- ---- offsets
+pub offset_more : (rest : List ℕ) (i whole at new c : ℕ) → i < length rest → at ≡ whole - length (encode_utf8_all (take i rest)) → c ≡ get_or rest i 0 → new ≡ at - len_utf8 c → new ≡ whole - length (encode_utf8_all (take (i + 1) rest))
+offset_more rest i whole at new c h so_far is less =
     let more : length (encode_utf8_all (take (i + 1) rest)) ≡ length (encode_utf8_all (take i rest)) + len_utf8 c =
     ap length (text_more rest i h) ∙ length-append (encode_utf8_all (take i rest)) (encode_utf8 (get_or rest i 0)) ∙ ap (λ (n : ℕ). length (encode_utf8_all (take i rest)) + n) (length-encode (get_or rest i 0) ∙ ap len_utf8 (sym is)) in
     omega (arith, more, so_far, less)

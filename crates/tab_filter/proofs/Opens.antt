@@ -1,7 +1,7 @@
 -- A group that may be opened leaves one less to be opened in it.
 use Rattle.std.proofs.Common.{◌≡◌, ℕ, zero, suc, ◌-◌, List, false, refl, arith}
-use Rattle.tab_filter.specs.Words.{after_spaces}
-use Rattle.tab_filter.specs.Parts.{closed_group, any_at, part_at, inner_at, most_parts, most_comparisons}
+use Rattle.tab_filter.specs.Lexer.{after_spaces}
+use Rattle.tab_filter.specs.Parser.{closed_group, any_at, part_at, inner_at, most_parts, most_comparisons}
 
 pub opened : (depth used : ℕ) (text left rest : List ℕ) → (depth ≡ 0 → ⊥) → rest ≡ after_spaces left → inner_at most_comparisons most_parts depth false used text left ≡ closed_group (any_at (part_at most_comparisons (inner_at most_comparisons most_parts (depth - 1))) most_parts most_parts used rest)
 unfolding inner_at

@@ -1,10 +1,10 @@
 -- The texts of phrases.
 use Rattle.std.proofs.Common.{◌≡◌, ℕ, zero, suc, ◌≤◌, List, ◌∷◌, ◌++◌, false, refl, ap, sym, ◌∙◌, arith, append_assoc}
-use Rattle.tab_filter.specs.Words.{starts}
+use Rattle.tab_filter.specs.Lexer.{starts}
 use Rattle.tab_filter.specs.declared.trees.Operator.{Operator}
 use Rattle.tab_filter.specs.declared.trees.Operator.TheVariants.{Equal, NotEqual, Greater, GreaterOrEqual, Less, LessOrEqual}
 use Rattle.tab_filter.specs.Grammar.{Phrase, Comparing, Group, Negated, Joined, Parted, blank, operator_text, text_of, opens, comparisons, Level, unary, conjunction, disjunction, Fits}
-use Rattle.tab_filter.proofs.WordLaws.{name_no_space, name_no_opening}
+use Rattle.tab_filter.proofs.LexerLaws.{name_no_space, name_no_opening}
 
 pub blank_append : (n : ℕ) (x y : List ℕ) → blank n (x ++ y) ≡ blank n x ++ y
 blank_append zero x y = refl

@@ -2,7 +2,7 @@
 -- limits change nothing of it.
 use Rattle.std.proofs.Common.{◌≡◌, ℕ, List, [], ◌∷◌, ◌++◌, length, Bool, true, false, cond, ◌==◌, Ok, Err, refl, ap, sym, subst, ◌∙◌, arith, append_assoc, append-nil, length-append, ◌⊎◌, inl, inr}
 use Rattle.std.proofs.lemmas.List.{append_cancel_right}
-use Rattle.tab_filter.specs.Words.{Read, Fault, Syntax, BadLiteral, Deep, TooMany, ◌>>=◌, starts, past_first}
+use Rattle.tab_filter.specs.Lexer.{Read, ParseFault, Syntax, BadLiteral, Deep, TooMany, ◌>>=◌, starts, past_first}
 
 -- what is left is an end of the text
 abbrev pub Ended : {A : Type 0} → List ℕ → Read A → Type 0
@@ -27,7 +27,7 @@ pub record Same {A : Type 0} (f g : List ℕ → Read A) : Type 0 where
 abbrev pub done : {A : Type 0} → A × List ℕ → Read A
 done x = Ok x
 
-abbrev pub halted : (A : Type 0) → Fault → Read A
+abbrev pub halted : (A : Type 0) → ParseFault → Read A
 halted A e = Err e
 
 pub done_is : {A : Type 0} {x y : A × List ℕ} → done x ≡ done y → x ≡ y
@@ -36,10 +36,10 @@ done_is e = cc
 pub stop_is : (A : Type 0) {l m : List ℕ} → halted A (Syntax l) ≡ halted A (Syntax m) → l ≡ m
 stop_is A e = cc
 
-pub ok_no_stop : {A : Type 0} {x : A × List ℕ} {e : Fault} → done x ≡ halted A e → ⊥
+pub ok_no_stop : {A : Type 0} {x : A × List ℕ} {e : ParseFault} → done x ≡ halted A e → ⊥
 ok_no_stop e = cc
 
-pub err_no_ok : {A : Type 0} {e : Fault} {x : A × List ℕ} → halted A e ≡ done x → ⊥
+pub err_no_ok : {A : Type 0} {e : ParseFault} {x : A × List ℕ} → halted A e ≡ done x → ⊥
 err_no_ok e = cc
 
 pub bad_no_stop : (A : Type 0) {l m : List ℕ} → halted A (BadLiteral l) ≡ halted A (Syntax m) → ⊥

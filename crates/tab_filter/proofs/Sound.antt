@@ -1,10 +1,10 @@
 -- What reading says of the text that it read: an answer is spelled by what was taken, a front of some text stands before
--- the place where the grammar does not go on, and a literal is due where one that is bad stands.
+-- where the grammar does not go on, and a literal is due where one that is bad stands.
 use Rattle.std.proofs.Common.{◌≡◌, ◌⊎◌, inl, inr, ℕ, zero, suc, ◌<◌, List, [], ◌∷◌, ◌++◌, Bool, true, false, cond, ◌==◌, Ok, Err, refl, ap, sym, subst, ◌∙◌, arith, append_assoc}
 use Rattle.std.proofs.lemmas.Bool.{true≢false}
 use Rattle.std.proofs.lemmas.Bool.Decides.{Decides-eqb}
 use Rattle.tab_edm.specs.declared.values.Value.{Value}
-use Rattle.tab_filter.specs.Words.{Read, Syntax, BadLiteral, Deep, TooMany, ◌>>=◌, starts, past_first, after_spaces, behind, gap_at, edge_at}
+use Rattle.tab_filter.specs.Lexer.{Read, Syntax, BadLiteral, Deep, TooMany, ◌>>=◌, starts, past_first, after_spaces, behind, gap_at, edge_at}
 use Rattle.tab_filter.specs.Grammar.{ends_token, IsLiteral, blank}
 
 -- no literal stands here, and no parenthesis

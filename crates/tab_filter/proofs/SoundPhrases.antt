@@ -2,19 +2,19 @@
 use Rattle.std.proofs.Common.{◌≡◌, inl, ℕ, zero, suc, ◌+◌, List, [], ◌∷◌, ◌++◌, Bool, true, false, Ok, refl, ap, sym, subst, ◌∙◌, arith, append-nil, pos}
 use Rattle.tab_edm.specs.declared.values.Value.TheVariants.{Int32}
 use Rattle.tab_filter.specs.declared.trees.Operator.TheVariants.{Equal}
-use Rattle.tab_filter.specs.declared.words.Joint.{Joint}
-use Rattle.tab_filter.specs.declared.words.Joint.TheVariants.{And, Or, Neither}
+use Rattle.tab_filter.specs.declared.lexer.Joint.{Joint}
+use Rattle.tab_filter.specs.declared.lexer.Joint.TheVariants.{And, Or, Neither}
 use Rattle.tab_filter.specs.Trees.{Tree, Both, Either}
-use Rattle.tab_filter.specs.Words.{Read, ◌>>=◌, starts, after_spaces, expect, edge_at, joint_at}
-use Rattle.tab_filter.specs.Parts.{Part, All, Any, compared, part_at, all_more, all_at, any_more, any_at, closed_group, inner_at}
+use Rattle.tab_filter.specs.Lexer.{Read, ◌>>=◌, starts, after_spaces, expect, edge_at, joint_at}
+use Rattle.tab_filter.specs.Parser.{PartView, AllView, AnyView, compared, part_at, all_more, all_at, any_more, any_at, closed_group, inner_at}
 use Rattle.tab_filter.specs.Grammar.{Phrase, Comparing, Group, Negated, Joined, Parted, blank, text_of, tree_at, opens, closes, comparisons, unary, conjunction, disjunction, Fits, IsGap}
 use Rattle.tab_filter.proofs.Phrases.{blank_append, text_append, text_begins}
 use Rattle.tab_filter.proofs.Sound.{Meaning, Sound, sound_after, sound_bind, sound_map, spaces, blank_into, IsEdge, sound_edge}
-use Rattle.tab_filter.proofs.SoundWords.{Is, expect_sound, some_name, TailText, Tail, joint_sound}
-use Rattle.tab_filter.proofs.SoundParts.{Few, Deeply, PartText, Behind, InnerSound, part_sound, some_part, text_some, gap_for, negation_sound, closed_sound}
+use Rattle.tab_filter.proofs.SoundLexer.{Is, expect_sound, some_name, TailText, Tail, joint_sound}
+use Rattle.tab_filter.proofs.SoundParser.{Few, Deeply, PartText, Behind, InnerSound, part_sound, some_part, text_some, gap_for, negation_sound, closed_sound}
 
 -- ---- parts joined by `and`, with the word behind them
-pub record AllText (most depth used : ℕ) (k : Bool) (v : All) (s : List ℕ) : Type 0 where
+pub record AllText (most depth used : ℕ) (k : Bool) (v : AllView) (s : List ℕ) : Type 0 where
   pub phrase : Phrase
   pub fits : Fits conjunction phrase
   pub tree_is : v.tree ≡ tree_at phrase
@@ -27,10 +27,10 @@ pub record AllText (most depth used : ℕ) (k : Bool) (v : All) (s : List ℕ) :
   pub is : s ≡ text_of phrase tail
 
 -- what may follow a part, and a part with the word behind it
-abbrev AfterPart : ℕ → ℕ → ℕ → Part → Meaning All
+abbrev AfterPart : ℕ → ℕ → ℕ → PartView → Meaning AllView
 AfterPart most depth used a k v w = (s : List ℕ) → PartText most depth used k a s → AllText most depth used k v (s ++ w)
 
-abbrev AfterJoint : ℕ → ℕ → ℕ → Part → Joint → Meaning All
+abbrev AfterJoint : ℕ → ℕ → ℕ → PartView → Joint → Meaning AllView
 AfterJoint most depth used a joint k v w =
     (s t : List ℕ) → PartText most depth used k a s → TailText a.closed joint t → AllText most depth used k v (s ++ (t ++ w))
 
@@ -48,10 +48,10 @@ all_any (Negated a inner) f = f
 all_any (Joined first a b second) f = f
 all_any (Parted first a b second) f = absurd f
 
-abbrev alone : Part → Joint → All
+abbrev alone : PartView → Joint → AllView
 alone a joint = record { tree = a.tree; joint = joint; used = a.used }
 
-one_all : (most depth used : ℕ) (a : Part) (joint : Joint) (k : Bool) → (joint ≡ And → ⊥) → AfterJoint most depth used a joint k (alone a joint) []
+one_all : (most depth used : ℕ) (a : PartView) (joint : Joint) (k : Bool) → (joint ≡ And → ⊥) → AfterJoint most depth used a joint k (alone a joint) []
 one_all most depth used a joint k other s t p tail = record {
   phrase = p.phrase;
   fits = unary_all p.phrase p.fits;
@@ -81,14 +81,14 @@ record EdgeText {A : Type 0} (G : Meaning A) (k : Bool) (v : A) (w : List ℕ) :
   reads : G k v inner
   is : w ≡ blank count inner
 
-abbrev both : Part → All → All
+abbrev both : PartView → AllView → AllView
 both a m = record { tree = Both a.tree m.tree; joint = m.joint; used = m.used }
 
 -- the texts of two parts with a word between them
 between : (n : ℕ) (word x w : List ℕ) (m : ℕ) → x ≡ blank n word → x ++ blank m w ≡ blank n (word ++ blank m w)
 between n word x w m e = ap (λ (l : List ℕ). l ++ blank m w) e ∙ sym (blank_append n word (blank m w))
 
-joined_all : (most depth used : ℕ) (a : Part) (k : Bool) (v : All) (w : List ℕ) → EdgeText (AllText most depth a.used) k v w → AfterJoint most depth used a And k (both a v) w
+joined_all : (most depth used : ℕ) (a : PartView) (k : Bool) (v : AllView) (w : List ℕ) → EdgeText (AllText most depth a.used) k v w → AfterJoint most depth used a And k (both a v) w
 joined_all most depth used a k v w e s t p tail =
     let q = e.reads in
     let phrase : Phrase = Joined p.phrase tail.0 e.count q.phrase in
@@ -125,10 +125,10 @@ or_no_and e = cc
 neither_no_and : Neither ≡ And → ⊥
 neither_no_and e = cc
 
-abbrev PartsSound : ℕ → ℕ → (ℕ → List ℕ → Read Part) → Type 0
+abbrev PartsSound : ℕ → ℕ → (ℕ → List ℕ → Read PartView) → Type 0
 PartsSound most depth part = (used : ℕ) (t : List ℕ) → Sound (PartText most depth used) t (part used t)
 
-more_all : (most depth used : ℕ) (rest : ℕ → List ℕ → Read All) (a : Part) (joint : Joint) (t : List ℕ) → ((used : ℕ) (t : List ℕ) → Sound (AllText most depth used) t (rest used t)) → Sound (AfterJoint most depth used a joint) t (all_more rest a joint t)
+more_all : (most depth used : ℕ) (rest : ℕ → List ℕ → Read AllView) (a : PartView) (joint : Joint) (t : List ℕ) → ((used : ℕ) (t : List ℕ) → Sound (AllText most depth used) t (rest used t)) → Sound (AfterJoint most depth used a joint) t (all_more rest a joint t)
 more_all most depth used rest a And t law =
     sound_map (EdgeText (AllText most depth a.used)) (AfterJoint most depth used a And) (both a) t (edge_at t >>= λ e. rest a.used e.1)
     (sound_edge (AllText most depth a.used) (EdgeText (AllText most depth a.used)) t (λ u. rest a.used u) (λ u. law a.used u) (λ k b h. text_some conjunction h.phrase h.tail h.fits (sym h.is))
@@ -139,7 +139,7 @@ more_all most depth used rest a Or t law = ([], one_all most depth used a Or tru
 more_all most depth used rest a Neither t law = ([], one_all most depth used a Neither true neither_no_and, refl)
 
 -- a joint, and what may follow it
-fill_joint : (most depth used : ℕ) (a : Part) (joint : Joint) → (v : All) × (w : List ℕ) × AfterJoint most depth used a joint false v w
+fill_joint : (most depth used : ℕ) (a : PartView) (joint : Joint) → (v : AllView) × (w : List ℕ) × AfterJoint most depth used a joint false v w
 fill_joint most depth used a And = (
   both a (alone (compared (101 ∷ []) Equal (Int32 (pos 0)) a.used) Neither),
   32 ∷ 101 ∷ 32 ∷ 101 ∷ 113 ∷ 32 ∷ 48 ∷ [],
@@ -148,11 +148,11 @@ fill_joint most depth used a And = (
 fill_joint most depth used a Or = (alone a Or, [], one_all most depth used a Or false or_no_and)
 fill_joint most depth used a Neither = (alone a Neither, [], one_all most depth used a Neither false neither_no_and)
 
-part_loose : (most depth used : ℕ) (a : Part) (s : List ℕ) → PartText most depth used true a s → PartText most depth used false a s
+part_loose : (most depth used : ℕ) (a : PartView) (s : List ℕ) → PartText most depth used true a s → PartText most depth used false a s
 part_loose most depth used a s p =
     record { phrase = p.phrase; fits = p.fits; tree_is = p.tree_is; closed_is = p.closed_is; used_is = p.used_is; few = tt; nests = tt; is = p.is }
 
-pub all_sound : (most depth : ℕ) (part : ℕ → List ℕ → Read Part) → PartsSound most depth part → (n used : ℕ) (t : List ℕ) → Sound (AllText most depth used) t (all_at part n used t)
+pub all_sound : (most depth : ℕ) (part : ℕ → List ℕ → Read PartView) → PartsSound most depth part → (n used : ℕ) (t : List ℕ) → Sound (AllText most depth used) t (all_at part n used t)
 unfolding all_at
 all_sound most depth part law zero used t = tt
 all_sound most depth part law (suc n) used t =
@@ -167,7 +167,7 @@ all_sound most depth part law (suc n) used t =
     (λ k a v s w g after. after s g)
 
 -- ---- parts joined by `or`
-pub record AnyText (most depth used : ℕ) (k : Bool) (v : Any) (s : List ℕ) : Type 0 where
+pub record AnyText (most depth used : ℕ) (k : Bool) (v : AnyView) (s : List ℕ) : Type 0 where
   pub phrase : Phrase
   pub fits : Fits disjunction phrase
   pub tree_is : v.tree ≡ tree_at phrase
@@ -177,10 +177,10 @@ pub record AnyText (most depth used : ℕ) (k : Bool) (v : Any) (s : List ℕ) :
   pub after : ℕ
   pub is : s ≡ text_of phrase (blank after [])
 
-abbrev AfterAll : ℕ → ℕ → ℕ → All → Meaning Any
+abbrev AfterAll : ℕ → ℕ → ℕ → AllView → Meaning AnyView
 AfterAll most depth used a k v w = (s : List ℕ) → AllText most depth used k a s → AnyText most depth used k v (s ++ w)
 
-abbrev alone_any : All → Any
+abbrev alone_any : AllView → AnyView
 alone_any a = record { tree = a.tree; used = a.used }
 
 neither_tail : (closed : Bool) (joint : Joint) (t : List ℕ) → joint ≡ Neither → TailText closed joint t → (n : ℕ) × (t ≡ blank n [])
@@ -189,7 +189,7 @@ neither_tail closed joint t e tail = subst (λ (j : Joint). TailText closed j t)
 or_tail : (closed : Bool) (joint : Joint) (t : List ℕ) → joint ≡ Or → TailText closed joint t → (n : ℕ) × IsGap closed n × (t ≡ blank n (111 ∷ 114 ∷ []))
 or_tail closed joint t e tail = subst (λ (j : Joint). TailText closed j t) e tail
 
-one_any : (most depth used : ℕ) (a : All) (k : Bool) → a.joint ≡ Neither → AfterAll most depth used a k (alone_any a) []
+one_any : (most depth used : ℕ) (a : AllView) (k : Bool) → a.joint ≡ Neither → AfterAll most depth used a k (alone_any a) []
 one_any most depth used a k e s g =
     let n = neither_tail (closes g.phrase) a.joint g.tail e g.tail_is in
     record {
@@ -203,10 +203,10 @@ one_any most depth used a k e s g =
       is = append-nil s ∙ g.is ∙ ap (text_of g.phrase) n.1;
     }
 
-abbrev either : All → Any → Any
+abbrev either : AllView → AnyView → AnyView
 either a m = record { tree = Either a.tree m.tree; used = m.used }
 
-parted_any : (most depth used : ℕ) (a : All) (k : Bool) (v : Any) (w : List ℕ) → a.joint ≡ Or → EdgeText (AnyText most depth a.used) k v w → AfterAll most depth used a k (either a v) w
+parted_any : (most depth used : ℕ) (a : AllView) (k : Bool) (v : AnyView) (w : List ℕ) → a.joint ≡ Or → EdgeText (AnyText most depth a.used) k v w → AfterAll most depth used a k (either a v) w
 parted_any most depth used a k v w j e s g =
     let q = e.reads in
     let n = or_tail (closes g.phrase) a.joint g.tail j g.tail_is in
@@ -232,7 +232,7 @@ some_any : (most depth used : ℕ) → AnyText most depth used false (alone_any 
 some_any most depth used =
     one_any most depth used (alone (compared (101 ∷ []) Equal (Int32 (pos 0)) used) Neither) false refl (101 ∷ 32 ∷ 101 ∷ 113 ∷ 32 ∷ 48 ∷ []) (some_all most depth used)
 
-more_any : (most depth used : ℕ) (rest : ℕ → List ℕ → Read Any) (a : All) (joint : Joint) (t : List ℕ) → a.joint ≡ joint → (a.joint ≡ And → ⊥) → ((used : ℕ) (t : List ℕ) → Sound (AnyText most depth used) t (rest used t)) → Sound (AfterAll most depth used a) t (any_more rest a joint t)
+more_any : (most depth used : ℕ) (rest : ℕ → List ℕ → Read AnyView) (a : AllView) (joint : Joint) (t : List ℕ) → a.joint ≡ joint → (a.joint ≡ And → ⊥) → ((used : ℕ) (t : List ℕ) → Sound (AnyText most depth used) t (rest used t)) → Sound (AfterAll most depth used a) t (any_more rest a joint t)
 more_any most depth used rest a Or t e other law =
     sound_map (EdgeText (AnyText most depth a.used)) (AfterAll most depth used a) (either a) t (edge_at t >>= λ e. rest a.used e.1)
     (sound_edge (AnyText most depth a.used) (EdgeText (AnyText most depth a.used)) t (λ u. rest a.used u) (λ u. law a.used u) (λ k b h. text_some disjunction h.phrase (blank h.after []) h.fits (sym h.is))
@@ -242,7 +242,7 @@ more_any most depth used rest a Or t e other law =
 more_any most depth used rest a And t e other law = absurd (other e)
 more_any most depth used rest a Neither t e other law = ([], one_any most depth used a true e, refl)
 
-fill_any : (most depth used : ℕ) (a : All) (joint : Joint) → a.joint ≡ joint → (a.joint ≡ And → ⊥) → (v : Any) × (w : List ℕ) × AfterAll most depth used a false v w
+fill_any : (most depth used : ℕ) (a : AllView) (joint : Joint) → a.joint ≡ joint → (a.joint ≡ And → ⊥) → (v : AnyView) × (w : List ℕ) × AfterAll most depth used a false v w
 fill_any most depth used a Or e other =
     let some = alone_any (alone (compared (101 ∷ []) Equal (Int32 (pos 0)) a.used) Neither) in (
       either a some,
@@ -252,11 +252,11 @@ fill_any most depth used a Or e other =
 fill_any most depth used a And e other = absurd (other e)
 fill_any most depth used a Neither e other = (alone_any a, [], one_any most depth used a false e)
 
-all_loose : (most depth used : ℕ) (a : All) (s : List ℕ) → AllText most depth used true a s → AllText most depth used false a s
+all_loose : (most depth used : ℕ) (a : AllView) (s : List ℕ) → AllText most depth used true a s → AllText most depth used false a s
 all_loose most depth used a s p =
     record { phrase = p.phrase; fits = p.fits; tree_is = p.tree_is; used_is = p.used_is; few = tt; nests = tt; tail = p.tail; tail_is = p.tail_is; other = p.other; is = p.is }
 
-pub any_sound : (most depth : ℕ) (part : ℕ → List ℕ → Read Part) → PartsSound most depth part → (parts n used : ℕ) (t : List ℕ) → Sound (AnyText most depth used) t (any_at part parts n used t)
+pub any_sound : (most depth : ℕ) (part : ℕ → List ℕ → Read PartView) → PartsSound most depth part → (parts n used : ℕ) (t : List ℕ) → Sound (AnyText most depth used) t (any_at part parts n used t)
 unfolding any_at
 any_sound most depth part law parts zero used t = tt
 any_sound most depth part law parts (suc n) used t =
@@ -267,17 +267,17 @@ any_sound most depth part law parts (suc n) used t =
     (λ k a v s w g after. after s g)
 
 -- ---- groups
-abbrev group_of : Any → Part
+abbrev group_of : AnyView → PartView
 group_of a = record { tree = a.tree; closed = true; used = a.used }
 
 deep_group : (k : Bool) (a : ℕ) (inner : Phrase) (b : ℕ) (depth : ℕ) → Deeply k inner depth → Deeply k (Group a inner b) (suc depth)
 deep_group true a inner b depth h = h
 deep_group false a inner b depth h = tt
 
-abbrev Closing : ℕ → ℕ → ℕ → ℕ → Any → Meaning Part
+abbrev Closing : ℕ → ℕ → ℕ → ℕ → AnyView → Meaning PartView
 Closing most depth used n a k v w = (s : List ℕ) → AnyText most depth used k a s → PartText most (suc depth) used k v (40 ∷ blank n (s ++ w))
 
-close : (most depth used n : ℕ) (a : Any) (k : Bool) → Closing most depth used n a k (group_of a) (41 ∷ [])
+close : (most depth used n : ℕ) (a : AnyView) (k : Bool) → Closing most depth used n a k (group_of a) (41 ∷ [])
 close most depth used n a k s g = record {
   phrase = Group n g.phrase g.after;
   fits = g.fits;
@@ -289,14 +289,14 @@ close most depth used n a k s g = record {
   is = ap (λ (l : List ℕ). 40 ∷ blank n l) (ap (λ (l : List ℕ). l ++ 41 ∷ []) g.is ∙ sym (text_append g.phrase (blank g.after []) (41 ∷ [])) ∙ ap (text_of g.phrase) (blank_into g.after (41 ∷ [])));
 }
 
-any_loose : (most depth used : ℕ) (a : Any) (s : List ℕ) → AnyText most depth used true a s → AnyText most depth used false a s
+any_loose : (most depth used : ℕ) (a : AnyView) (s : List ℕ) → AnyText most depth used true a s → AnyText most depth used false a s
 any_loose most depth used a s p =
     record { phrase = p.phrase; fits = p.fits; tree_is = p.tree_is; used_is = p.used_is; few = tt; nests = tt; after = p.after; is = p.is }
 
-abbrev InGroup : ℕ → ℕ → ℕ → ℕ → Meaning Part
+abbrev InGroup : ℕ → ℕ → ℕ → ℕ → Meaning PartView
 InGroup most depth used n k v s = PartText most (suc depth) used k v (40 ∷ blank n s)
 
-group_sound : (most depth : ℕ) (part : ℕ → List ℕ → Read Part) → PartsSound most depth part → (parts used : ℕ) (left : List ℕ) → Sound (Behind (40 ∷ []) (PartText most (suc depth) used)) left (closed_group (any_at part parts parts used (after_spaces left)))
+group_sound : (most depth : ℕ) (part : ℕ → List ℕ → Read PartView) → PartsSound most depth part → (parts used : ℕ) (left : List ℕ) → Sound (Behind (40 ∷ []) (PartText most (suc depth) used)) left (closed_group (any_at part parts parts used (after_spaces left)))
 group_sound most depth part law parts used left =
     let n = spaces left in
     let u = after_spaces left in

@@ -1,6 +1,6 @@
 -- A text is its longest front of some characters and what is behind it.
 use Rattle.std.proofs.Common.{◌≡◌, ℕ, zero, suc, ◌≤◌, List, [], ◌∷◌, ◌++◌, length, Bool, true, false, cond, refl, ap, sym, ◌∙◌, arith, length-append}
-use Rattle.tab_filter.specs.Words.{continues, name_front, name_behind, whole_name, behind_name, front_of, behind}
+use Rattle.tab_filter.specs.Lexer.{continues, name_front, name_behind, whole_name, behind_name, front_of, behind}
 
 pub name_split : (n : ℕ) (text : List ℕ) → text ≡ name_front n text ++ name_behind n text
 unfolding name_front name_behind

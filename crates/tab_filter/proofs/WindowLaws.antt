@@ -10,14 +10,14 @@ use Rattle.tab_edm.specs.declared.values.Value.TheVariants.{Text, Flag, Int32, I
 use Rattle.tab_filter.specs.declared.trees.Operator.{Operator}
 use Rattle.tab_filter.specs.declared.trees.Comparison.{Comparison}
 use Rattle.tab_filter.specs.declared.window.Narrowing.{Narrowing}
-use Rattle.tab_filter.specs.declared.window.Part.{Part}
-use Rattle.tab_filter.specs.declared.window.Part.TheVariants.{Partition, Row}
+use Rattle.tab_filter.specs.declared.window.KeyPart.{KeyPart}
+use Rattle.tab_filter.specs.declared.window.KeyPart.TheVariants.{Partition, Row}
 use Rattle.tab_filter.specs.Trees.{Tree, Compared, Negation, Both, Either}
 use Rattle.tab_filter.specs.Truth.{FilteredRow, truth, comparison_holds, found_holds, property_of, is_partition_key, is_row_key}
-use Rattle.tab_filter.specs.Windows.{window_of, has, all_meet, any_fixes, narrowings, narrowing_of, narrowing_by, unless_refused, is_of_part, is_not_equal}
+use Rattle.tab_filter.specs.Windows.{window_of, has, all_meet, any_fixes, narrowings, narrowing_of, narrowing_by, narrowing_if_key, is_of_part, is_not_equal}
 
 -- a row's key
-abbrev part_of : Part → FilteredRow → List ℕ
+abbrev part_of : KeyPart → FilteredRow → List ℕ
 part_of Partition row = row.pk
 part_of Row row = row.rk
 
@@ -32,11 +32,11 @@ unfolding is_row_key is_partition_key
 other_name name h = rw ((bytes_eq-Decides name (codes "RowKey")).0 h) refl
 
 -- a key's name stands for it
-key_found : (part : Part) (row : FilteredRow) (name : List ℕ) → is_of_part part name ≡ true → property_of row name ≡ Some (Text (part_of part row))
+key_found : (part : KeyPart) (row : FilteredRow) (name : List ℕ) → is_of_part part name ≡ true → property_of row name ≡ Some (Text (part_of part row))
 key_found Partition row name h = rw h refl
 key_found Row row name h = rw (other_name name h, h) refl
 
-refused_meets : (o : Option KeyRefused) (n : Narrowing) (key : List ℕ) → all_meet (n ∷ []) key ≡ true → all_meet (unless_refused o n) key ≡ true
+refused_meets : (o : Option KeyRefused) (n : Narrowing) (key : List ℕ) → all_meet (n ∷ []) key ≡ true → all_meet (narrowing_if_key o n) key ≡ true
 refused_meets None n key h = h
 refused_meets (Some why) n key h = refl
 
@@ -52,7 +52,7 @@ by_meets operator (Bytes bytes) key h = refl
 abbrev narrowed_by : Bool → Bool → Comparison → List Narrowing
 narrowed_by named different c = cond (not named || different) [] (narrowing_by c.operator c.value)
 
-comparison_meets : (part : Part) (c : Comparison) (row : FilteredRow) → comparison_holds row c ≡ true → all_meet (narrowing_of part c) (part_of part row) ≡ true
+comparison_meets : (part : KeyPart) (c : Comparison) (row : FilteredRow) → comparison_holds row c ≡ true → all_meet (narrowing_of part c) (part_of part row) ≡ true
 unfolding comparison_holds narrowing_of
 comparison_meets part c row h =
     elim (is_of_part part c.name) as (λ v. is_of_part part c.name ≡ v → all_meet (narrowed_by v (is_not_equal c.operator) c) (part_of part row) ≡ true) [
@@ -63,7 +63,7 @@ comparison_meets part c row h =
       | false ↦ λ named. refl
     ] refl
 
-narrowings_meet : (part : Part) (tree : Tree) (row : FilteredRow) → truth row tree ≡ true → all_meet (narrowings part tree) (part_of part row) ≡ true
+narrowings_meet : (part : KeyPart) (tree : Tree) (row : FilteredRow) → truth row tree ≡ true → all_meet (narrowings part tree) (part_of part row) ≡ true
 narrowings_meet part (Compared c) row h = comparison_meets part c row h
 narrowings_meet part (Negation inner) row h = refl
 narrowings_meet part (Both first second) row h =

@@ -8,7 +8,7 @@ use Rattle.tab_edm.specs.declared.values.Value.TheVariants.{Text, Flag, Moment, 
 use Rattle.tab_filter.specs.declared.trees.Operator.{Operator}
 use Rattle.tab_filter.specs.declared.trees.Operator.TheVariants.{Equal, NotEqual, Greater, GreaterOrEqual, Less, LessOrEqual}
 use Rattle.tab_filter.specs.Trees.{Tree, Compared, Negation, Both, Either}
-use Rattle.tab_filter.specs.Words.{begins, continues, is_unquoted}
+use Rattle.tab_filter.specs.Lexer.{begins, continues, is_unquoted}
 use Rattle.tab_filter.specs.Literals.{is_digit, integer_of, number_of, hex_pairs}
 
 -- ---- literals
@@ -195,7 +195,7 @@ pub record SpellsWithin (tree : Tree) (text : List ℕ) : Type 0 where
   pub nests : Nests spelled.phrase 64
   pub few : comparisons spelled.phrase ≤ 15
 
--- ---- places
+-- ---- where a text goes wrong
 
 -- a token ends here
 abbrev pub ends_token : List ℕ → Bool

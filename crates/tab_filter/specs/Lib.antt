@@ -1,8 +1,8 @@
 pub mod Trees
 pub mod Truth
 pub mod Windows
-pub mod Words
+pub mod Lexer
 pub mod Literals
-pub mod Parts
-pub mod Places
+pub mod Parser
+pub mod Offsets
 pub mod Grammar

@@ -5,7 +5,7 @@ use Rattle.uuid.specs.Text.{parsed, is_hex_digit, value_of}
 use Rattle.tab_edm.specs.declared.values.Value.{Value}
 use Rattle.tab_edm.specs.declared.values.Value.TheVariants.{Text, Flag, Int32, Int64, Moment, Guid, Bytes}
 use Rattle.tab_edm.specs.Moments.{CivilDate, days_before, text_of_date, text_of_time, text_of_fraction}
-use Rattle.tab_filter.specs.Words.{Read, Syntax, BadLiteral, starts, past_first, front_of, behind, is_plain, is_unquoted}
+use Rattle.tab_filter.specs.Lexer.{Read, Syntax, BadLiteral, starts, past_first, front_of, behind, is_plain, is_unquoted}
 
 -- ---- what stands between quotes: the bytes of the text that ends at the first quote that is not doubled, and the
 -- characters behind that quote
@@ -145,7 +145,7 @@ prefixed_value word inside =
     else (if bytes_eq word (codes "guid") then guid_of (encode_utf8_all inside)
     else (if bytes_eq word (codes "X") || bytes_eq word (codes "binary") then option_map Bytes (hex_pairs inside) else None))
 
--- ---- a literal, with its whole text for the place of one that is none
+-- ---- a literal, with its whole text for where one stands that is none
 abbrev pub given : List ℕ → Option Value → List ℕ → Read Value
 given text None left = Err (BadLiteral text)
 given text (Some value) left = Ok (value, left)

@@ -10,8 +10,8 @@ use Rattle.tab_filter.specs.declared.trees.Operator.{Operator}
 use Rattle.tab_filter.specs.declared.trees.Operator.TheVariants.{Equal, NotEqual, Greater, GreaterOrEqual, Less, LessOrEqual}
 use Rattle.tab_filter.specs.declared.trees.Comparison.{Comparison}
 use Rattle.tab_filter.specs.declared.window.Narrowing.{Narrowing}
-use Rattle.tab_filter.specs.declared.window.Part.{Part}
-use Rattle.tab_filter.specs.declared.window.Part.TheVariants.{Partition, Row}
+use Rattle.tab_filter.specs.declared.window.KeyPart.{KeyPart}
+use Rattle.tab_filter.specs.declared.window.KeyPart.TheVariants.{Partition, Row}
 use Rattle.tab_filter.specs.Trees.{Tree, Compared, Negation, Both, Either}
 use Rattle.tab_filter.specs.Truth.{operator_holds, is_partition_key, is_row_key}
 
@@ -21,7 +21,7 @@ pub record WindowView : Type 0 where
   pub rows : List Narrowing
 
 -- the name of a part of the key
-abbrev pub is_of_part : Part → List ℕ → Bool
+abbrev pub is_of_part : KeyPart → List ℕ → Bool
 is_of_part Partition name = is_partition_key name
 is_of_part Row name = is_row_key name
 
@@ -42,13 +42,13 @@ is_equal Less = false
 is_equal LessOrEqual = false
 
 -- a text narrows, if it is a key
-abbrev pub unless_refused : Option KeyRefused → Narrowing → List Narrowing
-unless_refused None narrowing = narrowing ∷ []
-unless_refused (Some why) narrowing = []
+abbrev pub narrowing_if_key : Option KeyRefused → Narrowing → List Narrowing
+narrowing_if_key None narrowing = narrowing ∷ []
+narrowing_if_key (Some why) narrowing = []
 
 -- and a literal, if it is a text
 abbrev pub narrowing_by : Operator → Value → List Narrowing
-narrowing_by operator (Text text) = unless_refused (key_refusal text) (record { operator = operator; text = text })
+narrowing_by operator (Text text) = narrowing_if_key (key_refusal text) (record { operator = operator; text = text })
 narrowing_by operator (Flag b) = []
 narrowing_by operator (Int32 n) = []
 narrowing_by operator (Int64 n) = []
@@ -57,12 +57,12 @@ narrowing_by operator (Guid bytes) = []
 narrowing_by operator (Bytes bytes) = []
 
 -- how a comparison narrows a part of the key, if it does
-unfoldable pub narrowing_of : Part → Comparison → List Narrowing
+unfoldable pub narrowing_of : KeyPart → Comparison → List Narrowing
 narrowing_of part comparison =
     if not (is_of_part part comparison.name) || is_not_equal comparison.operator then [] else narrowing_by comparison.operator comparison.value
 
 -- how the comparisons of a filter narrow a part of the key, where they are joined by `and` alone
-abbrev pub narrowings : Part → Tree → List Narrowing
+abbrev pub narrowings : KeyPart → Tree → List Narrowing
 narrowings part (Compared comparison) = narrowing_of part comparison
 narrowings part (Both first second) = narrowings part first ++ narrowings part second
 narrowings part (Negation inner) = []
@@ -137,7 +137,7 @@ abbrev pub is_past : WindowView → List ℕ → List ℕ → Bool
 is_past window pk rk =
     any_too_great window.partitions pk || (any_fixes_at window.partitions pk && any_too_great window.rows rk)
 
--- the first place of a partition does not
+-- the first point of a partition does not
 abbrev pub reaches : WindowView → List ℕ → Bool
 reaches window pk = not (is_past window pk [])
 

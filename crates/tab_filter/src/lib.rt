@@ -2,15 +2,15 @@
 //! can match.
 #![tactic(auto)]
 
+mod filter_text;
+mod lexer;
 mod literals;
-mod parsing;
-mod parts;
-mod stops;
+mod parse_stop;
+mod parser;
 mod trees;
 mod truth;
 mod window;
-mod words;
 
-pub use parsing::{FilterRefused, parse};
+pub use filter_text::{FilterRefused, parse};
 pub use trees::{Comparison, Filter, Operator};
 pub use window::{Window, matches_within_window, window_reaches_its_keys, window_starts_low};

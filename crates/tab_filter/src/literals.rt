@@ -1,13 +1,13 @@
 ghost use Rattle.std.specs.Prelude.{◌≡◌, ◌≤◌, ◌^◌, ◌+◌, ◌-◌, ◌*◌, true, false, vec_items, Option, Some, None, IfOk, OnOk, MatchOption, option_map, string_bytes, encode_utf8_all, OnSome, IfSome, IfNone};
 ghost use Rattle.tab_edm.specs.declared.values.Value.TheVariants.{Bytes};
 ghost use Rattle.uuid.specs.Text.{is_hex_digit, value_of};
-ghost use Rattle.tab_filter.specs.Words.{Gives, front_of, behind, is_plain, is_unquoted};
+ghost use Rattle.tab_filter.specs.Lexer.{Gives, front_of, behind, is_plain, is_unquoted};
 ghost use Rattle.tab_filter.specs.Literals.{with_front, inside_at, is_digit, fits_64, fits_32, signed, integer_of, long_at_end, goes_on, digits_value, starts_digit, some_digits, integer_value, plain_value, hex_byte, hex_pairs, moment_of, guid_of, prefixed_value, given, quoted, token_at, closed_at, quote_at, word_at, literal_at};
 
-use crate::stops::Stop;
-use crate::words::{
+use crate::lexer::{
     first_and_rest, is_word, past_first, split_unquoted, split_word, starts, text_of,
 };
+use crate::parse_stop::ParseStop;
 use std::alloc::{AllocError, Global};
 use tab_edm::{BytesValue, TextValue, Value, read_moment};
 use uuid::Uuid;
@@ -17,7 +17,7 @@ const MOST: u64 = 9_223_372_036_854_775_808;
 
 /// A literal, and what is behind it.
 #[tactic(auto, unfolding(crate::specs::Literals::literal_at))]
-pub fn literal(alloc: Global, text: &[char]) -> Result<(Value, &[char]), Stop<'_>>
+pub fn literal(alloc: Global, text: &[char]) -> Result<(Value, &[char]), ParseStop<'_>>
     ensures { Gives (λ x. (x.0, x.1.now)) result (literal_at text.now) }
 {
     let (word, rest) = split_word(text);
@@ -33,15 +33,15 @@ fn token<'a>(
     text: &'a [char],
     word: &[char],
     rest: &'a [char],
-) -> Result<(Value, &'a [char]), Stop<'a>>
+) -> Result<(Value, &'a [char]), ParseStop<'a>>
     ensures { Gives (λ x. (x.0, x.1.now)) result (token_at text.now word.now rest.now) }
 {
     if word.is_empty() {
-        return Err(Stop::Syntax(rest));
+        return Err(ParseStop::Syntax(rest));
     }
     match plain_value(word) {
         Some(value) => Ok((value, rest)),
-        None => Err(Stop::BadLiteral(text)),
+        None => Err(ParseStop::BadLiteral(text)),
     }
 }
 
@@ -51,14 +51,14 @@ fn quote<'a>(
     text: &'a [char],
     word: &[char],
     rest: &'a [char],
-) -> Result<(Value, &'a [char]), Stop<'a>>
+) -> Result<(Value, &'a [char]), ParseStop<'a>>
     ensures { Gives (λ x. (x.0, x.1.now)) result (quote_at text.now word.now rest.now) }
 {
     if word.is_empty() {
         return match inside(alloc, rest) {
             Ok(Some((inside, rest))) => Ok((Value::Text(TextValue::new(inside)), rest)),
-            Ok(None) => Err(Stop::BadLiteral(text)),
-            Err(_) => Err(Stop::Memory),
+            Ok(None) => Err(ParseStop::BadLiteral(text)),
+            Err(_) => Err(ParseStop::Memory),
         };
     }
     let (inside, rest) = split_unquoted(rest);
@@ -72,16 +72,16 @@ fn closed<'a>(
     word: &[char],
     inside: &[char],
     rest: &'a [char],
-) -> Result<(Value, &'a [char]), Stop<'a>>
+) -> Result<(Value, &'a [char]), ParseStop<'a>>
     ensures { Gives (λ x. (x.0, x.1.now)) result (closed_at text.now word.now inside.now rest.now) }
 {
     if !starts('\'', rest) {
-        return Err(Stop::BadLiteral(text));
+        return Err(ParseStop::BadLiteral(text));
     }
     match prefixed_value(alloc, word, inside) {
         Ok(Some(value)) => Ok((value, past_first(rest))),
-        Ok(None) => Err(Stop::BadLiteral(text)),
-        Err(_) => Err(Stop::Memory),
+        Ok(None) => Err(ParseStop::BadLiteral(text)),
+        Err(_) => Err(ParseStop::Memory),
     }
 }
 

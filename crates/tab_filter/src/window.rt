@@ -106,9 +106,9 @@ impl Filter {
     {
         let mut partitions = Vec::new(alloc);
         let mut rows = Vec::new(alloc);
-        add_narrowings(alloc, &mut partitions, self.root(), Part::Partition)?;
+        add_narrowings(alloc, &mut partitions, self.root(), KeyPart::Partition)?;
         if any_fixes(&partitions) {
-            add_narrowings(alloc, &mut rows, self.root(), Part::Row)?;
+            add_narrowings(alloc, &mut rows, self.root(), KeyPart::Row)?;
         }
         Ok(Window { partitions, rows })
     }
@@ -139,7 +139,7 @@ impl Window {
         (lower_corner(&self.partitions), lower_corner(&self.rows))
     }
 
-    /// Whether the first place of this partition lies at or before the upper edge.
+    /// Whether the first point of this partition lies at or before the upper edge.
     pub fn reaches(&self, pk: &KeyText) -> bool
         ensures { result ≡ reaches self.now pk.now }
     {
@@ -166,7 +166,7 @@ impl Window {
 
 /// The two parts of a key.
 #[derive(Clone, Copy, Debug, PartialEq, Eq)]
-pub enum Part {
+pub enum KeyPart {
     Partition,
     Row,
 }
@@ -176,7 +176,7 @@ fn add_narrowings(
     alloc: Global,
     out: &mut Vec<Narrowing>,
     node: &Node,
-    part: Part,
+    part: KeyPart,
 ) -> Result<(), Memory>
     ensures { OnOk result (out.new.items ≡ out.old.items ++ narrowings part (tree_of node.now)) }
 {
@@ -195,7 +195,7 @@ fn add_narrowing(
     alloc: Global,
     out: &mut Vec<Narrowing>,
     comparison: &Comparison,
-    part: Part,
+    part: KeyPart,
 ) -> Result<(), Memory>
     ensures { OnOk result (out.new.items ≡ out.old.items ++ narrowing_of part comparison.now) }
 {
@@ -223,12 +223,12 @@ fn add_narrowing(
     }
 }
 
-fn is_of_part(part: Part, name: &str) -> bool
+fn is_of_part(part: KeyPart, name: &str) -> bool
     ensures { result ≡ is_of_part part name.now }
 {
     match part {
-        Part::Partition => is_partition_key(name),
-        Part::Row => is_row_key(name),
+        KeyPart::Partition => is_partition_key(name),
+        KeyPart::Row => is_row_key(name),
     }
 }
 

@@ -14,7 +14,7 @@ use Rattle.tab_keys.specs.declared.bounds.Bound.TheVariants.{At, End}
 unfoldable pub text_cmp : List ℕ → List ℕ → Ordering
 text_cmp a b = slice_cmp nat_cmp (units_of a) (units_of b)
 
--- the place of a byte among all bytes by which UTF-8 texts compare as their units do: those that begin a character
+-- the rank of a byte among all bytes by which UTF-8 texts compare as their units do: those that begin a character
 -- from U+E000 to U+FFFF come behind those that begin a later one, whose first unit is a surrogate
 abbrev pub byte_rank : ℕ → ℕ
 byte_rank b = if nat_lt b 0xEE then b else (if nat_lt b 0xF0 then b + 16 else b - 2)

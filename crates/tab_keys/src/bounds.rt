@@ -9,12 +9,12 @@ use crate::{KeyText, Memory};
 use std::alloc::Global;
 use std::cmp::Ordering;
 
-/// A place between keys. Bounds are ordered as they stand among the keys.
+/// A point between keys. Bounds are ordered as they stand among the keys.
 #[derive(Debug, Drop)]
 pub enum Bound {
-    /// The place before all keys of this table and partition.
+    /// The point before all keys of this table and partition.
     At(u64, KeyText),
-    /// The place past all keys.
+    /// The point past all keys.
     End,
 }
 

@@ -10,7 +10,7 @@ ghost use Rattle.tab_keys.specs.Order.{text_cmp};
 ghost use Rattle.tab_keys.specs.TotalOrders.{text_cmp_total};
 
 use crate::Memory;
-use crate::text_order::compare_units;
+use crate::text_order::utf16_cmp;
 use std::alloc::Global;
 use std::cmp::Ordering;
 use std::marker::Model;
@@ -127,7 +127,7 @@ impl Ord for KeyText {
     ghost matches_eq = { λ a b. refl };
 
     fn cmp(&self, other: &KeyText) -> Ordering {
-        compare_units(self.as_str(), other.as_str())
+        utf16_cmp(self.as_str(), other.as_str())
     }
 }
 

@@ -4,7 +4,7 @@ ghost use Rattle.tab_keys.specs.Order.{text_cmp, byte_rank};
 use std::cmp::Ordering;
 
 /// Compares two texts by their UTF-16 code units, and reads each byte once.
-pub fn compare_units(a: &str, b: &str) -> Ordering
+pub fn utf16_cmp(a: &str, b: &str) -> Ordering
     ensures { result ≡ text_cmp a.now b.now }
 {
     let a = a.as_bytes();

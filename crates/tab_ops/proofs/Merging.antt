@@ -3,7 +3,7 @@ use Rattle.std.proofs.Common.{◌≡◌, ℕ, ◌≢◌, List, [], ◌∷◌, �
 use Rattle.std.specs.Prelude.{Option, Some, None, Result, Ok, Err, MatchResult, All, AllPairs, IsFalse, nat_lt}
 use Rattle.std.specs.Option.{option_or}
 use Rattle.std.proofs.lemmas.List.Elements.{All-head, All-tail}
-use Rattle.tab_edm.specs.Entities.{EntityView, IsEntity, property_refusal, first_refusal, entity_refusal, entity_size, unless_refused, made, IsRising}
+use Rattle.tab_edm.specs.Entities.{EntityView, IsEntity, property_refusal, first_refusal, entity_refusal, entity_size, entity_or_refusal, made, IsRising}
 use Rattle.tab_edm.specs.Values.{is_reserved, IsInTime}
 use Rattle.std.specs.List.Sorted.{IsPermutation}
 use Rattle.tab_edm.specs.declared.values.Property.{Property}
@@ -42,7 +42,7 @@ limits_of_made index pk_units rk_units ps r none is = rw (is, none) (by_test (na
     outcome : Bool → Bool → Result (Option EntityView) OpRefused
     outcome b c = cond b (Err (TooMany index)) (cond c (Err (TooLarge index)) (Ok (Some entity)))
 
-    by_test : (b c : Bool) → MatchResult (unless_refused entity (cond b (Some EdmRefused.TooMany) (cond c (Some EdmRefused.TooLarge) None))) (λ one. outcome b c ≡ Ok (Some one)) (λ why. outcome b c ≡ Err (refusal_for index why))
+    by_test : (b c : Bool) → MatchResult (entity_or_refusal entity (cond b (Some EdmRefused.TooMany) (cond c (Some EdmRefused.TooLarge) None))) (λ one. outcome b c ≡ Ok (Some one)) (λ why. outcome b c ≡ Err (refusal_for index why))
     by_test true c = refl
     by_test false true = refl
     by_test false false = refl

@@ -15,11 +15,11 @@ use Rattle.tab_filter.specs.declared.trees.Operator.{Operator}
 use Rattle.tab_filter.specs.declared.trees.Operator.TheVariants.{Equal as EqualTo, NotEqual, Greater as GreaterThan, GreaterOrEqual, Less as LessThan, LessOrEqual}
 use Rattle.tab_filter.specs.declared.trees.Comparison.{Comparison}
 use Rattle.tab_filter.specs.declared.window.Narrowing.{Narrowing}
-use Rattle.tab_filter.specs.declared.window.Part.{Part}
-use Rattle.tab_filter.specs.declared.window.Part.TheVariants.{Partition, Row}
+use Rattle.tab_filter.specs.declared.window.KeyPart.{KeyPart}
+use Rattle.tab_filter.specs.declared.window.KeyPart.TheVariants.{Partition, Row}
 use Rattle.tab_filter.specs.Trees.{Tree, Compared, Negation, Both, Either}
 use Rattle.tab_filter.specs.Truth.{operator_holds}
-use Rattle.tab_filter.specs.Windows.{WindowView, has, below, all_meet, meets, any_fixes, any_fixes_at, any_too_great, any_too_small, is_too_small, small_by, great_by, is_lower, is_equal, is_not_equal, is_of_part, lower_corner, greater_corner, narrowings, narrowing_of, narrowing_by, unless_refused}
+use Rattle.tab_filter.specs.Windows.{WindowView, has, below, all_meet, meets, any_fixes, any_fixes_at, any_too_great, any_too_small, is_too_small, small_by, great_by, is_lower, is_equal, is_not_equal, is_of_part, lower_corner, greater_corner, narrowings, narrowing_of, narrowing_by, narrowing_if_key}
 use Rattle.tab_filter.proofs.WindowEdges.{starts_low, reaches_up_to}
 use Rattle.tab_page.specs.Pages.{window_for}
 
@@ -36,7 +36,7 @@ plain-append (n ∷ ns) b h k =
     let parts = and_parts (not (is_not_equal n.operator)) (plain ns) h in
     and_from (not (is_not_equal n.operator)) (plain (ns ++ b)) parts.0 (plain-append ns b parts.1 k)
 
-plain-unless : (o : Option KeyRefused) (n : Narrowing) → is_not_equal n.operator ≡ false → plain (unless_refused o n) ≡ true
+plain-unless : (o : Option KeyRefused) (n : Narrowing) → is_not_equal n.operator ≡ false → plain (narrowing_if_key o n) ≡ true
 plain-unless None n h = ap (λ t. not t && true) h
 plain-unless (Some why) n h = refl
 
@@ -49,7 +49,7 @@ plain-by operator (Moment tick) h = refl
 plain-by operator (Guid bytes) h = refl
 plain-by operator (Bytes bytes) h = refl
 
-plain-of : (part : Part) (c : Comparison) → plain (narrowing_of part c) ≡ true
+plain-of : (part : KeyPart) (c : Comparison) → plain (narrowing_of part c) ≡ true
 unfolding narrowing_of
 plain-of part c = by_tests (is_of_part part c.name) (is_not_equal c.operator) refl
   where
@@ -58,7 +58,7 @@ plain-of part c = by_tests (is_of_part part c.name) (is_not_equal c.operator) re
     by_tests true true e = refl
     by_tests true false e = plain-by c.operator c.value e
 
-plain-narrowings : (part : Part) (tree : Tree) → plain (narrowings part tree) ≡ true
+plain-narrowings : (part : KeyPart) (tree : Tree) → plain (narrowings part tree) ≡ true
 plain-narrowings part (Compared c) = plain-of part c
 plain-narrowings part (Negation inner) = refl
 plain-narrowings part (Both first second) = plain-append (narrowings part first) (narrowings part second) (plain-narrowings part first) (plain-narrowings part second)

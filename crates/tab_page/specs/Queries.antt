@@ -7,9 +7,9 @@ use Rattle.std.specs.Str.{chars}
 use Rattle.std.specs.Str.Lossy.{utf8_lossy}
 use Rattle.form_urlencoded.specs.Form.{raw_pairs, decode}
 use Rattle.tab_filter.specs.Trees.{Tree}
-use Rattle.tab_filter.specs.Words.{Fault}
-use Rattle.tab_filter.specs.Parts.{filter_at}
-use Rattle.tab_filter.specs.Places.{refusal_of}
+use Rattle.tab_filter.specs.Lexer.{ParseFault}
+use Rattle.tab_filter.specs.Parser.{filter_at}
+use Rattle.tab_filter.specs.Offsets.{refusal_of}
 use Rattle.tab_page.specs.declared.pages.Options.{Options}
 use Rattle.tab_page.specs.declared.queries.OptionRefused.{OptionRefused}
 use Rattle.tab_page.specs.declared.queries.OptionRefused.TheVariants.{BadOption, BadTop, BadToken, Filter}
@@ -90,7 +90,7 @@ start_of (Some partition) row = token_of partition >>= λ pk. (row_of row >>= λ
 
 -- ---- which rows
 
-abbrev pub filter_read : List ℕ → Result Tree Fault → Result (Option Tree) OptionRefused
+abbrev pub filter_read : List ℕ → Result Tree ParseFault → Result (Option Tree) OptionRefused
 filter_read text (Ok tree) = Ok (Some tree)
 filter_read text (Err fault) = Err (Filter (refusal_of text fault))
 

@@ -1,3 +1,3 @@
 mod Filters
 pub mod RowLaws
-mod PlaceLemmas
+mod IndexLemmas

@@ -432,8 +432,8 @@ cut_between rows key rising none =
     }
 
 -- a row that is put where it belongs stands there
-pub with_row-at : (rows : List RowView) (row : RowView) (place : ℕ) → AllBelow (take place rows) row.key → AllAbove (drop place rows) row.key → with_row rows row ≡ take place rows ++ row ∷ drop place rows
-with_row-at rows row place below above = ap (λ xs. with_row xs row) (sym (take-append-drop place rows)) ∙ with_row-between (take place rows) (drop place rows) row below above
+pub with_row-at : (rows : List RowView) (row : RowView) (index : ℕ) → AllBelow (take index rows) row.key → AllAbove (drop index rows) row.key → with_row rows row ≡ take index rows ++ row ∷ drop index rows
+with_row-at rows row index below above = ap (λ xs. with_row xs row) (sym (take-append-drop index rows)) ∙ with_row-between (take index rows) (drop index rows) row below above
 
 -- each of rows that rise stands at its key
 pub All-row_at : (rows : List RowView) → AreRising rows → All (λ row. row_at rows row.key ≡ Some row) rows

@@ -4,12 +4,12 @@
 
 mod changes;
 mod cursors;
-mod row_lists;
-mod row_values;
-mod step_counts;
+mod row;
+mod rows;
+mod steps;
 
 pub use changes::Change;
 pub use cursors::Cursor;
-pub use row_lists::Rows;
-pub use row_values::Row;
-pub use step_counts::Steps;
+pub use row::Row;
+pub use rows::Rows;
+pub use steps::Steps;

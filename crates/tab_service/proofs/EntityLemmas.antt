@@ -4,7 +4,7 @@ use Rattle.std.specs.Ordering.{is_lt}
 use Rattle.std.specs.Cmp.Lexicographic.{slice_cmp}
 use Rattle.std.specs.List.{AllPairs}
 use Rattle.std.proofs.lemmas.Cmp.{nat_list_cmp_total, tied_itself}
-use Rattle.tab_edm.specs.Entities.{EntityView, IsRising, entity_refusal, made, unless_refused}
+use Rattle.tab_edm.specs.Entities.{EntityView, IsRising, entity_refusal, made, entity_or_refusal}
 use Rattle.tab_edm.specs.declared.values.Property.{Property}
 use Rattle.tab_edm.specs.declared.entities.EdmRefused.{EdmRefused}
 
@@ -17,7 +17,7 @@ apart a b below same =
 pub distinct : (properties : List Property) → IsRising properties → AllPairs (λ a b. a.name ≢ b.name) properties
 distinct properties rising i j d lt within = apart _ _ (rising i j d lt within)
 
-made_from : (entity made : EntityView) (refusal : Option EdmRefused) → Ok entity ≡ unless_refused made refusal → entity ≡ made
+made_from : (entity made : EntityView) (refusal : Option EdmRefused) → Ok entity ≡ entity_or_refusal made refusal → entity ≡ made
 made_from entity made None e = cc
 made_from entity made (Some why) e = absurd (cc)
 

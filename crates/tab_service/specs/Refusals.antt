@@ -6,8 +6,8 @@ use Rattle.tab_edm.specs.declared.entities.EdmRefused.{EdmRefused}
 use Rattle.tab_edm.specs.declared.entities.EdmRefused.TheVariants.{NameInvalid, NameTooLong, ValueTooLarge, TooMany, TooLarge, Memory as NoMemoryForEntity}
 use Rattle.tab_auth.specs.declared.checks.AuthRefused.{AuthRefused}
 use Rattle.tab_auth.specs.declared.checks.AuthRefused.TheVariants.{Missing, UnknownAccount, DateUnread, TooOld, TooEarly, Differs, Memory as NoMemoryToSign}
-use Rattle.tab_filter.specs.declared.parsing.FilterRefused.{FilterRefused}
-use Rattle.tab_filter.specs.declared.parsing.FilterRefused.TheVariants.{Syntax, TooManyComparisons, BadLiteral, Memory as NoMemoryForFilter}
+use Rattle.tab_filter.specs.declared.filter_text.FilterRefused.{FilterRefused}
+use Rattle.tab_filter.specs.declared.filter_text.FilterRefused.TheVariants.{Syntax, TooManyComparisons, BadLiteral, Memory as NoMemoryForFilter}
 use Rattle.tab_page.specs.declared.queries.OptionRefused.{OptionRefused}
 use Rattle.tab_page.specs.declared.queries.OptionRefused.TheVariants.{BadOption, BadTop, BadToken, Filter, Memory as NoMemoryForOptions}
 use Rattle.tab_json.specs.declared.bodies.JsonRefused.{JsonRefused}
