@@ -8,8 +8,8 @@ use Rattle.tab_drive.specs.declared.reading.NextEvent.{NextEvent}
 use Rattle.tab_drive.specs.declared.reading.NextEvent.TheVariants.{Event, End}
 use Rattle.tab_drive.specs.declared.reading.Unread.{Unread}
 use Rattle.tab_drive.specs.declared.reading.Unread.TheVariants.{NoEvent, Fault, Memory}
-use Rattle.tab_outside.specs.declared.pieces.FillRefused.{FillRefused}
-use Rattle.tab_outside.specs.declared.pieces.FillRefused.TheVariants.{Ended, Failed, Memory as NoRoom}
+use Rattle.tab_outside.specs.declared.transfers.FillRefused.{FillRefused}
+use Rattle.tab_outside.specs.declared.transfers.FillRefused.TheVariants.{Ended, Failed, Memory as NoRoom}
 
 -- what was read was taken, in its one spelling
 abbrev pub ReadsNext : Option (List ℕ) → Option (List ℕ) → NextEvent → Type 0

@@ -6,8 +6,8 @@ use Rattle.tab_http.specs.Messages.{RefusesHeadless, Spells, IsParsed, IsOpen}
 use Rattle.tab_http.specs.declared.messages.Message.{Message}
 use Rattle.tab_http.specs.declared.refusals.HttpRefused.{HttpRefused}
 use Rattle.tab_http.specs.declared.refusals.HttpRefused.TheVariants.{EndInside, HeadTooLong, ReadFault, Memory}
-use Rattle.tab_outside.specs.declared.pieces.FillRefused.{FillRefused}
-use Rattle.tab_outside.specs.declared.pieces.FillRefused.TheVariants.{Ended, Failed, Memory as NoRoom}
+use Rattle.tab_outside.specs.declared.transfers.FillRefused.{FillRefused}
+use Rattle.tab_outside.specs.declared.transfers.FillRefused.TheVariants.{Ended, Failed, Memory as NoRoom}
 
 -- ---- messages
 

@@ -1,5 +1,6 @@
 -- Calls that are counted, and of which listed ones fail.
-use Rattle.std.specs.Prelude.{◌≡◌, ℕ, ◌+◌, ◌-◌, ◌^◌, min, List, Contains}
+use Rattle.std.specs.Prelude.{◌≡◌, ℕ, ◌+◌, ◌-◌, ◌^◌, min, List, Contains, Result, OnOk}
+use Rattle.tab_outside.specs.Faults.{HasCause}
 
 -- how many calls were made, the numbers of those that are to fail, and how many failed
 pub record Calls : Type 0 where
@@ -19,10 +20,12 @@ next_call calls = min (calls.made + 1) (2 ^ 64 - 1)
 abbrev pub IsListed : Calls → Type 0
 IsListed calls = Contains calls.fails (next_call calls)
 
--- one more call was made
-pub record CountsCall (old new : Calls) : Type 0 where
+-- one more call was made; its fault is counted where it failed, and none where it did not
+pub record CountsCall {T E : Type 0} (old new : Calls) (result : Result T E) : Type 0 where
   pub made : new.made ≡ next_call old
   pub fails : new.fails ≡ old.fails
+  pub cause : HasCause old.faults new.faults result
+  pub faultless : OnOk result (new.faults ≡ old.faults)
 
 -- something in memory: the bytes that it tells, and its calls
 pub record InMemory : Type 0 where

@@ -13,7 +13,7 @@ pub record TookFront (old new : Option (List ℕ)) (piece : List ℕ) : Type 0 w
   pub short : count < length piece
   pub taken : Appends old new (take count piece)
 
--- bytes went from those that were left to the place behind those that were there
+-- bytes went from those that were left to behind those that were there
 pub record Moved (old new : Option (List ℕ)) (there now : List ℕ) : Type 0 where
   pub bytes : List ℕ
   pub consumed : Consumes old new bytes

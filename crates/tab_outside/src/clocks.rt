@@ -1,3 +1,4 @@
+//! What tells the time, in ticks of 100 ns since 1601-01-01T00:00:00Z, and its form in memory.
 ghost use Rattle.std.specs.Prelude.{◌≡◌, ℕ};
 
 /// What tells the time.

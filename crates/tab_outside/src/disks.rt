@@ -1,10 +1,11 @@
+//! Rows of bytes that outlive the program, and their form in memory.
 ghost use Rattle.std.specs.Prelude.{◌≡◌, ℕ, ◌+◌, ◌^◌, ◌<◌, ◌≤◌, ◌↔◌, min, Bool, false, [], length, take, drop, IfOk, OnOk, OnErr, IsErr, IsFalse};
 ghost use Rattle.tab_outside.specs.Calls.{no_calls, IsListed, CountsCall};
 ghost use Rattle.tab_outside.specs.Disks.{overwritten};
 ghost use Rattle.tab_outside.specs.Faults.{HasCause};
 
-use crate::buffers::{copy_front, overwrite};
-use crate::listed_calls::ListedCalls;
+use crate::bytes::{copy_front, overwrite};
+use crate::calls::ListedCalls;
 use crate::{Failed, Memory};
 use std::alloc::Global;
 use std::marker::Model;
@@ -22,14 +23,15 @@ pub trait Disk {
         ensures cause { HasCause (faults self.old) (faults self.new) result }
         ensures stops { has_stops self.new ≡ has_stops self.old };
 
-    /// Reads the bytes from the place `at` on into the front of the buffer and answers how many: fewer than
-    /// the buffer holds exactly at the end of the disk.
+    /// Reads the bytes from the offset `at` on into the front of the buffer and answers how many: fewer than
+    /// the buffer holds exactly at the end of the disk. What a read that fails leaves in the buffer is free.
     fn read_at(&mut self, at: u64, buf: &mut [u8]) -> Result<usize, Failed>
         ensures bound { IfOk result (λ n. n ≤ length buf.old) }
         ensures cause { HasCause (faults self.old) (faults self.new) result }
         ensures stops { has_stops self.new ≡ has_stops self.old };
 
-    /// Writes the whole piece at the place `at`. A disk that ends before is filled up with zeros to there.
+    /// Writes the whole piece at the offset `at`. A disk that ends before is filled up with zeros to there; an
+    /// empty piece changes nothing.
     fn write_at(&mut self, at: u64, piece: &[u8]) -> Result<(), Failed>
         ensures cause { HasCause (faults self.old) (faults self.new) result }
         ensures stops { has_stops self.new ≡ has_stops self.old };
@@ -111,8 +113,7 @@ impl Disk for MemDisk {
         ensures length { IfOk result (λ n. n ≡ length self.old.bytes) }
         ensures kept { self.new.bytes ≡ self.old.bytes }
         ensures listed { IsErr result ↔ IsListed self.old.calls }
-        ensures counted { CountsCall self.old.calls self.new.calls }
-        ensures cause { HasCause self.old.calls.faults self.new.calls.faults result }
+        ensures counted { CountsCall self.old.calls self.new.calls result }
     {
         self.calls.begin()?;
         Ok(self.bytes.len() as u64)
@@ -122,10 +123,10 @@ impl Disk for MemDisk {
         ensures count { IfOk result (λ n. n ≡ min (length (drop at self.old.bytes)) (length buf.old)) }
         ensures read { IfOk result (λ n. take n buf.new ≡ take n (drop at self.old.bytes)) }
         ensures rest { IfOk result (λ n. drop n buf.new ≡ drop n buf.old) }
+        ensures lent { OnErr result (buf.new ≡ buf.old) }
         ensures kept { self.new.bytes ≡ self.old.bytes }
         ensures listed { IsErr result ↔ IsListed self.old.calls }
-        ensures counted { CountsCall self.old.calls self.new.calls }
-        ensures cause { HasCause self.old.calls.faults self.new.calls.faults result }
+        ensures counted { CountsCall self.old.calls self.new.calls result }
     {
         self.calls.begin()?;
         let rest = self.bytes.get(at as usize..).unwrap_or_default();
@@ -137,8 +138,7 @@ impl Disk for MemDisk {
         ensures kept { OnErr result (self.new.bytes ≡ self.old.bytes) }
         ensures far { 2 ^ 62 < at + length piece.now → IsErr result }
         ensures listed { IsListed self.old.calls → IsErr result }
-        ensures counted { CountsCall self.old.calls self.new.calls }
-        ensures cause { HasCause self.old.calls.faults self.new.calls.faults result }
+        ensures counted { CountsCall self.old.calls self.new.calls result }
     {
         self.calls.begin()?;
         let end = at.saturating_add(piece.len() as u64);
@@ -154,8 +154,7 @@ impl Disk for MemDisk {
     fn sync(&mut self) -> Result<(), Failed>
         ensures kept { self.new.bytes ≡ self.old.bytes }
         ensures listed { IsErr result ↔ IsListed self.old.calls }
-        ensures counted { CountsCall self.old.calls self.new.calls }
-        ensures cause { HasCause self.old.calls.faults self.new.calls.faults result }
+        ensures counted { CountsCall self.old.calls self.new.calls result }
     {
         self.calls.begin()
     }

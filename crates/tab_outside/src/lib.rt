@@ -2,20 +2,20 @@
 //! its faults, and their forms in memory.
 #![tactic(auto)]
 
-mod buffers;
+mod bytes;
+mod calls;
 mod clocks;
 mod disks;
-mod listed_calls;
-mod pieces;
 mod sinks;
 mod sources;
+mod transfers;
 
 pub use clocks::{Clock, SetClock};
 pub use disks::{Disk, MemDisk};
-pub use pieces::{FillRefused, fill, read_byte, write_all};
 pub use sinks::{MemSink, Sink};
 pub use sources::{MemSource, Source};
 use std::alloc::{AllocError, AllocFailed};
+pub use transfers::{FillRefused, fill, read_byte, write_all};
 
 /// A call of something outside that failed. Its cause is told by the count of faults alone.
 #[derive(Clone, Copy, Debug, PartialEq, Eq)]

@@ -1,3 +1,4 @@
+//! Where bytes are written to, and its form in memory.
 ghost use Rattle.std.specs.Prelude.{◌≡◌, ℕ, ◌<◌, ◌≤◌, List, [], length, Option, Some, IfOk, IsErr};
 ghost use Rattle.std.specs.Io.KnownBytes.{WriteAppends};
 ghost use Rattle.tab_outside.specs.Calls.{no_calls, IsListed, CountsCall};
@@ -5,7 +6,7 @@ ghost use Rattle.tab_outside.specs.Faults.{HasCause, Rose};
 ghost use Rattle.tab_outside.specs.Sides.{Side, nothing_beside};
 
 use crate::Failed;
-use crate::listed_calls::ListedCalls;
+use crate::calls::ListedCalls;
 use std::alloc::Global;
 use std::marker::Model;
 
@@ -77,8 +78,7 @@ impl Sink for MemSink {
         ensures count { IfOk result (λ n. n ≡ length piece.now) }
         ensures bytes { WriteAppends (Some self.old.bytes) (Some self.new.bytes) result piece.now }
         ensures listed { IsListed self.old.calls → IsErr result }
-        ensures counted { CountsCall self.old.calls self.new.calls }
-        ensures cause { HasCause self.old.calls.faults self.new.calls.faults result }
+        ensures counted { CountsCall self.old.calls self.new.calls result }
     {
         self.calls.begin()?;
         match self.bytes.extend_from_slice(piece) {

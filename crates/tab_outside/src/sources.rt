@@ -1,12 +1,13 @@
-ghost use Rattle.std.specs.Prelude.{◌≡◌, ℕ, ◌<◌, ◌≤◌, ◌↔◌, min, List, length, Option, Some, IfOk, IsErr};
+//! Where bytes are read from, and its form in memory.
+ghost use Rattle.std.specs.Prelude.{◌≡◌, ℕ, ◌<◌, ◌≤◌, ◌↔◌, min, List, length, Option, Some, IfOk, OnErr, IsErr};
 ghost use Rattle.std.specs.Io.KnownBytes.{ReadConsumes};
 ghost use Rattle.tab_outside.specs.Calls.{no_calls, IsListed, CountsCall};
 ghost use Rattle.tab_outside.specs.Faults.{HasCause};
 ghost use Rattle.tab_outside.specs.Sides.{Side, nothing_beside};
 
 use crate::Failed;
-use crate::buffers::copy_front;
-use crate::listed_calls::ListedCalls;
+use crate::bytes::copy_front;
+use crate::calls::ListedCalls;
 use std::marker::Model;
 
 /// Where bytes are read from, in order.
@@ -74,8 +75,8 @@ impl Source for MemSource {
         ensures count { IfOk result (λ n. n ≡ min (length self.old.bytes) (length buf.old)) }
         ensures bytes { ReadConsumes (Some self.old.bytes) (Some self.new.bytes) result buf.new }
         ensures listed { IsErr result ↔ IsListed self.old.calls }
-        ensures counted { CountsCall self.old.calls self.new.calls }
-        ensures cause { HasCause self.old.calls.faults self.new.calls.faults result }
+        ensures lent { OnErr result (buf.new ≡ buf.old) }
+        ensures counted { CountsCall self.old.calls self.new.calls result }
     {
         self.calls.begin()?;
         let count = copy_front(&self.bytes[self.at..], buf);

@@ -1,6 +1,7 @@
+//! The calls of something in memory, of which listed ones fail.
 ghost use Rattle.std.specs.Prelude.{◌≡◌, ◌≤◌, ◌↔◌, IsErr};
 ghost use Rattle.tab_outside.specs.Calls.{no_calls, IsListed, CountsCall};
-ghost use Rattle.tab_outside.specs.Faults.{HasCause, Rose};
+ghost use Rattle.tab_outside.specs.Faults.{Rose};
 
 use crate::Failed;
 use std::marker::Model;
@@ -22,6 +23,7 @@ impl Model for ListedCalls {
 }
 
 impl ListedCalls {
+    /// No call was made yet.
     pub fn new(fails: Vec<u64>) -> ListedCalls
         ensures { result ≡ no_calls fails.items }
     {
@@ -34,9 +36,8 @@ impl ListedCalls {
 
     /// Counts one call, and a fault where the call is listed.
     pub fn begin(&mut self) -> Result<(), Failed>
-        ensures counted { CountsCall self.old self.new }
+        ensures counted { CountsCall self.old self.new result }
         ensures listed { IsErr result ↔ IsListed self.old }
-        ensures cause { HasCause self.old.faults self.new.faults result }
     {
         self.made = self.made.saturating_add(1);
         if self.fails.contains(&self.made) {

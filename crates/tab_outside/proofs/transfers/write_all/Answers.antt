@@ -2,7 +2,7 @@ use Rattle.std.proofs.Common.{◌∙◌, arith, rules}
 use Rattle.std.proofs.KnownBytes.{Appends-trans}
 use Rattle.std.proofs.lemmas.List.{take_rest}
 use Rattle.std.proofs.Math.Seq.{take-add}
-use Rattle.tab_outside.proofs.pieces.write_all.Goals as goal
+use Rattle.tab_outside.proofs.transfers.write_all.Goals as goal
 
 pub loop-done-preserved : goal.loop-done-preserved
 loop-done-preserved g c = record {

@@ -1,6 +1,6 @@
 use Rattle.std.proofs.Common.{◌∙◌, ◌≡◌, ◌≤◌, take, length, rules}
 use Rattle.tab_outside.proofs.Fronts.{grown_front, cut_behind}
-use Rattle.tab_outside.proofs.pieces.fill_piece.Goals as goal
+use Rattle.tab_outside.proofs.transfers.fill_piece.Goals as goal
 
 pub returns-clause-moved : goal.returns-clause-moved
 returns-clause-moved g c =

@@ -1,3 +1,4 @@
+//! Copies between slices, and writes into bytes that grow with them.
 ghost use Rattle.std.specs.Prelude.{◌≡◌, ◌+◌, ◌-◌, ◌^◌, ◌≤◌, ◌++◌, min, length, replicate, take, drop, OnOk, OnErr};
 ghost use Rattle.tab_outside.specs.Disks.{overwritten};
 
@@ -14,18 +15,22 @@ pub fn copy_front(bytes: &[u8], buf: &mut [u8]) -> usize
     count
 }
 
-/// Writes the piece at a place among the bytes, with zeros before it where they end sooner.
+/// Writes the piece at an offset among the bytes, with zeros before it where they end sooner. An empty piece
+/// changes nothing.
 pub fn overwrite(bytes: &mut Vec<u8>, at: usize, piece: &[u8]) -> Result<(), Memory>
     requires { at + length piece.now ≤ 2 ^ 62 }
     ensures written { OnOk result (bytes.new.items ≡ overwritten bytes.old.items at piece.now) }
     ensures kept { OnErr result (bytes.new.items ≡ bytes.old.items) }
 {
+    if piece.is_empty() {
+        return Ok(());
+    }
     grow_to(bytes, at + piece.len())?;
     replace(bytes, at, piece);
     Ok(())
 }
 
-/// Puts the piece in the place of as many bytes.
+/// Puts the piece in the stead of as many bytes from an offset on.
 fn replace(bytes: &mut [u8], at: usize, piece: &[u8])
     requires { at + length piece.now ≤ length bytes.old }
     ensures { bytes.new ≡ take at bytes.old ++ piece.now ++ drop (at + length piece.now) bytes.old }

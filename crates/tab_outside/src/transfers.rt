@@ -1,11 +1,13 @@
+//! Whole transfers over sources and sinks, which may take fewer bytes at a call than were asked for.
 ghost use Rattle.std.specs.Prelude.{◌≡◌, ◌+◌, ◌<◌, ◌≤◌, length, take, vec_len, IfOk, OnOk, OnErr, IsErrOf};
 ghost use Rattle.std.specs.Io.KnownBytes.{Keeps, Appends, Consumes, IsAtEnd};
-ghost use Rattle.tab_outside.specs.Faults.{HasCause, Rose};
+ghost use Rattle.tab_outside.specs.Faults.{HasCause, HasCauseFor};
 ghost use Rattle.tab_outside.specs.Transfers.{ReadsByte, TookFront, Moved};
 
 use crate::{Failed, Sink, Source};
 
-/// The most room that is made before the bytes for it have come.
+// The most room that is asked for before the bytes for it have come, so that a length which was only
+// announced takes no memory.
 const PIECE: usize = 65_536;
 
 /// Why fewer bytes were read than asked for.
@@ -31,15 +33,13 @@ pub fn read_byte<S: Source>(source: &mut S) -> Result<Option<u8>, Failed>
     Ok(if count == 0 { None } else { Some(buf[0]) })
 }
 
-/// Reads `count` bytes behind what `into` has. Room is made as the bytes come, so no length that was only
-/// announced takes memory. After a refusal `into` has the bytes that came before it.
+/// Reads `count` bytes behind what `into` has. After a refusal `into` has the bytes that came before it.
 pub fn fill<S: Source>(source: &mut S, count: usize, into: &mut Vec<u8>) -> Result<(), FillRefused>
     ensures moved { Moved (S.left source.old) (S.left source.new) into.old.items into.new.items }
     ensures whole { OnOk result (vec_len into.new ≡ vec_len into.old + count) }
     ensures short { OnErr result (vec_len into.new < vec_len into.old + count) }
     ensures ended { IsErrOf result FillRefused.Ended → IsAtEnd (S.left source.new) }
-    ensures failed { IsErrOf result FillRefused.Failed → Rose (S.faults source.old) (S.faults source.new) }
-    ensures later { S.faults source.old ≤ S.faults source.new }
+    ensures cause { HasCauseFor (S.faults source.old) (S.faults source.new) result FillRefused.Failed }
     ensures beside { S.beside source.new ≡ S.beside source.old }
 {
     let mut missing = count;
@@ -62,8 +62,7 @@ fn fill_piece<S: Source>(
     ensures whole { OnOk result (vec_len into.new ≡ vec_len into.old + count) }
     ensures short { OnErr result (vec_len into.new < vec_len into.old + count) }
     ensures ended { IsErrOf result FillRefused.Ended → IsAtEnd (S.left source.new) }
-    ensures failed { IsErrOf result FillRefused.Failed → Rose (S.faults source.old) (S.faults source.new) }
-    ensures later { S.faults source.old ≤ S.faults source.new }
+    ensures cause { HasCauseFor (S.faults source.old) (S.faults source.new) result FillRefused.Failed }
     ensures beside { S.beside source.new ≡ S.beside source.old }
 {
     let start = into.len();
@@ -85,8 +84,7 @@ fn read_full<S: Source>(source: &mut S, buf: &mut [u8]) -> (usize, Result<(), Fi
     ensures whole { OnOk result.1 (result.0 ≡ length buf.old) }
     ensures short { OnErr result.1 (result.0 < length buf.old) }
     ensures ended { IsErrOf result.1 FillRefused.Ended → IsAtEnd (S.left source.new) }
-    ensures failed { IsErrOf result.1 FillRefused.Failed → Rose (S.faults source.old) (S.faults source.new) }
-    ensures later { S.faults source.old ≤ S.faults source.new }
+    ensures cause { HasCauseFor (S.faults source.old) (S.faults source.new) result.1 FillRefused.Failed }
     ensures beside { S.beside source.new ≡ S.beside source.old }
 {
     let mut done = 0;

@@ -1,6 +1,6 @@
 use Rattle.std.proofs.Common.{◌≡◌, ◌+◌, ◌≤◌, vec_len}
 use Rattle.tab_outside.specs.Transfers.{Moved}
-use Rattle.tab_outside.proofs.pieces.fill.Given as goal
+use Rattle.tab_outside.proofs.transfers.fill.Given as goal
 
 abbrev pub invariant-loop-missing : goal.invariant-loop-missing
 invariant-loop-missing g l = record {

@@ -1,7 +1,7 @@
 use Rattle.std.proofs.Common.{◌∙◌, ◌≤◌, length, arith, rules}
 use Rattle.std.proofs.KnownBytes.{Consumes-trans}
 use Rattle.tab_outside.proofs.Fronts.{read_behind}
-use Rattle.tab_outside.proofs.pieces.read_full.Goals as goal
+use Rattle.tab_outside.proofs.transfers.read_full.Goals as goal
 
 pub loop-done-preserved : goal.loop-done-preserved
 loop-done-preserved g c =
