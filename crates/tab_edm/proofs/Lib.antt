@@ -10,3 +10,4 @@ pub mod Digits
 pub mod Pieces
 pub mod Readings
 pub mod MomentLaws
+pub mod MomentFunction

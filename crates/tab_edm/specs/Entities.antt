@@ -7,8 +7,10 @@ use Rattle.tab_edm.specs.Texts.{char_count}
 use Rattle.tab_edm.specs.Values.{is_valid_name, is_small, IsInTime, property_size, is_reserved}
 use Rattle.tab_edm.specs.declared.values.Property.{Property}
 use Rattle.tab_edm.specs.declared.values.Value.{Value}
+use Rattle.tab_edm.specs.declared.values.TheConstants.{MOST_NAME_CHARACTERS}
 use Rattle.tab_edm.specs.declared.values.PropertyFault.{PropertyFault}
 use Rattle.tab_edm.specs.declared.entities.EdmRefused.{EdmRefused}
+use Rattle.tab_edm.specs.declared.entities.TheConstants.{MOST_PROPERTIES, MOST_SIZE}
 use Rattle.tab_edm.specs.declared.entities.EdmRefused.TheVariants.{NameInvalid, NameTooLong, ValueTooLarge, TooMany, TooLarge}
 
 -- what contracts see of an entity: its properties, and the units of the keys that it was made for
@@ -38,7 +40,7 @@ refused PropertyFault.ValueTooLarge p = ValueTooLarge p
 -- what is wrong with one property
 unfoldable pub property_refusal : Property → Option EdmRefused
 property_refusal p =
-    if is_valid_name p.name then (if nat_lt 255 (char_count p.name) then Some (NameTooLong p) else (if is_small p.value then None else Some (ValueTooLarge p))) else Some (NameInvalid p)
+    if is_valid_name p.name then (if nat_lt MOST_NAME_CHARACTERS (char_count p.name) then Some (NameTooLong p) else (if is_small p.value then None else Some (ValueTooLarge p))) else Some (NameInvalid p)
 
 -- what is wrong with the first property that has something wrong
 unfoldable pub first_refusal : List Property → Option EdmRefused
@@ -49,7 +51,7 @@ first_refusal (p ∷ ps) = option_or (property_refusal p) (first_refusal ps)
 unfoldable pub entity_refusal : ℕ → ℕ → List Property → Option EdmRefused
 entity_refusal pk_units rk_units properties =
     option_or (first_refusal properties)
-    (if nat_lt 252 (length properties) then Some TooMany else (if nat_lt 1_048_576 (entity_size pk_units rk_units properties) then Some TooLarge else None))
+    (if nat_lt MOST_PROPERTIES (length properties) then Some TooMany else (if nat_lt MOST_SIZE (entity_size pk_units rk_units properties) then Some TooLarge else None))
 
 -- properties in rising order of their names, none of them reserved, within all limits
 pub record IsEntity (pk_units rk_units : ℕ) (properties : List Property) : Type 0 where

@@ -1,6 +1,8 @@
 -- Moments and ETags as texts.
-use Rattle.std.specs.Prelude.{◌≡◌, ◌≤◌, ◌<◌, ℕ, zero, suc, ◌+◌, ◌-◌, ◌*◌, ◌/◌, ◌%◌, ◌^◌, List, [], ◌∷◌, ◌++◌, nat_lt, if◌then◌else◌, codes, pos}
+use Rattle.std.specs.Prelude.{◌≡◌, ◌≤◌, ◌<◌, ℕ, zero, suc, ◌+◌, ◌-◌, ◌*◌, ◌/◌, ◌%◌, ◌^◌, List, [], ◌∷◌, ◌++◌, length, take, drop, Bool, ◌&&◌, nat_lt, nat_le, Option, Some, None, if◌then◌else◌, codes, bytes_eq, pos}
+use Rattle.std.specs.Str.Parse.{digits_value}
 use Rattle.jiff_core.specs.Calendar.{days_in_month, day_count}
+use Rattle.tab_edm.specs.declared.TheConstants.{TICKS_IN_A_SECOND}
 
 -- a date of the calendar
 pub record CivilDate : Type 0 where
@@ -39,12 +41,11 @@ unfoldable pub text_of_fraction : ℕ → ℕ → List ℕ
 text_of_fraction zero fraction = codes "Z"
 text_of_fraction (suc count) fraction = codes "." ++ last_digits (suc count) fraction ++ codes "Z"
 
--- `YYYY-MM-DDTHH:MM:SS.fffffffZ`, with this text for each colon, of a number of ticks since 1601-01-01T00:00:00Z, ten
--- million in a second
+-- `YYYY-MM-DDTHH:MM:SS.fffffffZ`, with this text for each colon, of a number of ticks since 1601-01-01T00:00:00Z
 unfoldable pub moment_with : List ℕ → ℕ → List ℕ
 moment_with colon tick =
-    let second = tick / 10_000_000 % 86_400 in
-    text_of_date (date_after (tick / 864_000_000_000)) ++ codes "T" ++ text_of_time colon (second / 3600) (second / 60 % 60) (second % 60) ++ text_of_fraction 7 (tick % 10_000_000)
+    let second = tick / TICKS_IN_A_SECOND % 86_400 in
+    text_of_date (date_after (tick / 864_000_000_000)) ++ codes "T" ++ text_of_time colon (second / 3600) (second / 60 % 60) (second % 60) ++ text_of_fraction 7 (tick % TICKS_IN_A_SECOND)
 
 -- the text of a moment
 unfoldable pub text_of_moment : ℕ → List ℕ
@@ -83,8 +84,55 @@ pub record Spells (colon text : List ℕ) (tick : ℕ) : Type 0 where
   pub count_in : count ≤ 7
   pub fraction_in : fraction < 10 ^ count
   pub text_is : text ≡ text_of_date date ++ codes "T" ++ text_of_time colon hour minute second ++ text_of_fraction count fraction
-  pub tick_is : tick ≡ (((days_before date * 24 + hour) * 60 + minute) * 60 + second) * 10_000_000 + fraction * 10 ^ (7 - count)
+  pub tick_is : tick ≡ (((days_before date * 24 + hour) * 60 + minute) * 60 + second) * TICKS_IN_A_SECOND + fraction * 10 ^ (7 - count)
 
 -- the texts of a moment that are read
 abbrev pub IsMoment : List ℕ → ℕ → Type 0
 IsMoment = Spells (codes ":")
+
+-- ---- the tick as a function of the text
+
+-- the numbers of a moment's text
+pub record MomentParts : Type 0 where
+  pub date : CivilDate
+  pub hour : ℕ
+  pub minute : ℕ
+  pub second : ℕ
+  pub count : ℕ
+  pub fraction : ℕ
+
+-- the number that so many digits at this offset spell
+abbrev pub number_at : List ℕ → ℕ → ℕ → ℕ
+number_at text at count = digits_value 10 (take count (drop at text))
+
+-- the numbers that stand at their offsets in `YYYY-MM-DDTHH:MM:SS.fffffffZ`, with as many digits of a fraction as there are
+abbrev pub parts_in : List ℕ → MomentParts
+parts_in text = record {
+  date = record { year = number_at text 0 4; month = number_at text 5 2; day = number_at text 8 2 };
+  hour = number_at text 11 2;
+  minute = number_at text 14 2;
+  second = number_at text 17 2;
+  count = length text - 21;
+  fraction = number_at text 20 (length text - 21);
+}
+
+abbrev pub text_of_parts : MomentParts → List ℕ
+text_of_parts p =
+    text_of_date p.date ++ codes "T" ++ text_of_time (codes ":") p.hour p.minute p.second ++ text_of_fraction p.count p.fraction
+
+abbrev pub is_real_date : CivilDate → Bool
+is_real_date d =
+    nat_le 1601 d.year && nat_le d.year 9999 && nat_le 1 d.month && nat_le d.month 12 && nat_le 1 d.day && nat_le d.day (days_in_month (pos d.year) d.month)
+
+abbrev pub are_real_parts : MomentParts → Bool
+are_real_parts p =
+    is_real_date p.date && nat_le p.hour 23 && nat_le p.minute 59 && nat_le p.second 59 && nat_le p.count 7 && nat_lt p.fraction (10 ^ p.count)
+
+abbrev pub tick_of_parts : MomentParts → ℕ
+tick_of_parts p =
+    (((days_before p.date * 24 + p.hour) * 60 + p.minute) * 60 + p.second) * TICKS_IN_A_SECOND + p.fraction * 10 ^ (7 - p.count)
+
+-- the tick of the moment that a text gives, if it gives one
+unfoldable pub moment_of : List ℕ → Option ℕ
+moment_of text =
+    if are_real_parts (parts_in text) && bytes_eq (text_of_parts (parts_in text)) text then Some (tick_of_parts (parts_in text)) else None

@@ -6,6 +6,7 @@ use Rattle.tab_edm.specs.Texts.{unit_count}
 use Rattle.tab_edm.specs.declared.values.Value.{Value}
 use Rattle.tab_edm.specs.declared.values.Value.TheVariants.{Text, Flag, Int32, Int64, Moment, Guid, Bytes}
 use Rattle.tab_edm.specs.declared.values.Property.{Property}
+use Rattle.tab_edm.specs.declared.values.TheConstants.{MOST_TEXT_UNITS, MOST_BINARY_BYTES}
 use Rattle.tab_edm.specs.declared.TheConstants.{GREATEST}
 
 -- a character that may begin a name, and one that may go on with it
@@ -23,8 +24,8 @@ is_valid_name name = is_identifier (chars name)
 
 -- at most 32,768 units, or 65,536 bytes
 unfoldable pub is_small : Value → Bool
-is_small (Text text) = nat_le (unit_count text) 32768
-is_small (Bytes bytes) = nat_le (length bytes) 65536
+is_small (Text text) = nat_le (unit_count text) MOST_TEXT_UNITS
+is_small (Bytes bytes) = nat_le (length bytes) MOST_BINARY_BYTES
 is_small (Flag b) = true
 is_small (Int32 n) = true
 is_small (Int64 n) = true

@@ -1,13 +1,23 @@
+//! Entities: lists of properties within the limits of Microsoft's Table service REST reference, "Understanding the Table
+//! service data model", "Entities", with the size that it counts them for.
+
 ghost use Rattle.std.specs.Prelude.{◌≡◌, ◌≢◌, ◌≤◌, ◌<◌, List, length, slice_index_or, All, AllPairs, IfOk, IsFalse, MatchOption, Some, None};
 ghost use Rattle.std.specs.List.Sorted.{IsPermutation};
 ghost use Rattle.std.specs.Option.{option_copied};
 ghost use Rattle.tab_edm.specs.Values.{is_reserved, IsInTime};
+ghost use Rattle.tab_edm.specs.declared.entities.TheConstants.{MOST_PROPERTIES};
 ghost use Rattle.tab_edm.specs.Entities.{IsEntity, IsRising, refused, first_refusal, entity_size, made, value_of};
 
 use crate::values::PropertyFault;
 use crate::{Memory, Property, Value};
 use std::alloc::Global;
 use std::marker::Model;
+
+/// The most properties of an entity, beside its keys and its timestamp.
+const MOST_PROPERTIES: usize = 252;
+
+/// The most bytes that an entity counts for.
+const MOST_SIZE: u128 = 1_048_576;
 
 /// Why properties make no entity.
 #[derive(Debug, Drop)]
@@ -83,6 +93,7 @@ impl Entity {
         self.size
     }
 
+    /// The properties in byte order of their names.
     pub fn properties(&self) -> &[Property]
         ensures properties { result.now ≡ self.now.properties }
         ensures entity { IsEntity self.now.pk_units self.now.rk_units self.now.properties }
@@ -90,18 +101,21 @@ impl Entity {
         self.properties.as_slice()
     }
 
+    /// The UTF-16 code units of the partition key that it was made for.
     pub fn pk_units(&self) -> usize
         ensures { result ≡ self.now.pk_units }
     {
         self.pk_units
     }
 
+    /// The UTF-16 code units of the row key that it was made for.
     pub fn rk_units(&self) -> usize
         ensures { result ≡ self.now.rk_units }
     {
         self.rk_units
     }
 
+    /// A copy in memory of its own.
     pub fn try_copy(&self, alloc: Global) -> Result<Entity, Memory>
         ensures { IfOk result (λ copy. copy ≡ self.now) }
     {
@@ -130,11 +144,11 @@ impl Entity {
         if let Some((index, fault)) = first_fault(&properties) {
             return Err(refused(fault, properties.swap_remove(index)));
         }
-        if properties.len() > 252 {
+        if properties.len() > MOST_PROPERTIES {
             return Err(EdmRefused::TooMany);
         }
         let size = entity_size(pk_units, rk_units, &properties);
-        if size > 1_048_576 {
+        if size > MOST_SIZE {
             return Err(EdmRefused::TooLarge);
         }
         Ok(Entity {
@@ -181,7 +195,7 @@ fn refused(fault: PropertyFault, property: Property) -> EdmRefused
 
 // In 128 bits, since any two numbers of units may be given.
 fn entity_size(pk_units: usize, rk_units: usize, properties: &[Property]) -> u128
-    requires few { length properties.now ≤ 252 }
+    requires few { length properties.now ≤ MOST_PROPERTIES }
     requires allowed { first_refusal properties.now ≡ None }
     ensures { result ≡ entity_size pk_units rk_units properties.now }
 {

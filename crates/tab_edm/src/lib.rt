@@ -28,5 +28,8 @@ impl<T: Drop> From<AllocFailed<T>> for Memory {
     }
 }
 
+/// The ticks of a second.
+pub const TICKS_IN_A_SECOND: u64 = 10_000_000;
+
 /// The last tick, 9999-12-31T23:59:59.9999999Z. A tick is 100 ns since 1601-01-01T00:00:00Z.
 pub const GREATEST: u64 = 2_650_467_743_999_999_999;

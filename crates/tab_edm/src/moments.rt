@@ -1,11 +1,12 @@
-ghost use Rattle.std.specs.Prelude.{◌≡◌, ℕ, ◌+◌, ◌-◌, ◌*◌, ◌^◌, ◌↔◌, length, take, drop, IsTrue, MatchOption, IfSome, Some, ◌++◌, ◌/◌, ◌%◌, ◌≤◌, ◌<◌, IfOk, OnOk, pos, string_bytes};
-ghost use Rattle.tab_edm.specs.Moments.{CivilDate, IsServed, IsMoment, Spells, date_after, last_digits, text_of_date, text_of_time, text_of_fraction, moment_with, text_of_moment, text_of_etag};
+//! Moments as texts, in the form of `Edm.DateTime` with a `Z` (OData 3.0; ISO 8601), and the ETags that are made of them (RFC 9110, section
+//! 8.8.3). The calendar is the Gregorian one for all years from 1601 to 9999.
 
-use crate::{GREATEST, Memory};
+ghost use Rattle.std.specs.Prelude.{◌≡◌, ℕ, ◌+◌, ◌-◌, ◌*◌, ◌^◌, ◌↔◌, length, take, drop, IsTrue, MatchOption, IfSome, Some, ◌++◌, ◌/◌, ◌%◌, ◌≤◌, ◌<◌, IfOk, OnOk, pos, string_bytes};
+ghost use Rattle.tab_edm.specs.Moments.{CivilDate, IsServed, IsMoment, Spells, moment_of, date_after, last_digits, text_of_date, text_of_time, text_of_fraction, moment_with, text_of_moment, text_of_etag};
+
+use crate::{GREATEST, Memory, TICKS_IN_A_SECOND};
 use jiff_core::civil::Date;
 use std::alloc::{AllocError, Global};
-
-const TICKS_IN_A_SECOND: u64 = 10_000_000;
 
 const TICKS_IN_A_DAY: u64 = 864_000_000_000;
 
@@ -46,6 +47,7 @@ pub fn etag_text(alloc: Global, tick: u64) -> Result<String, Memory>
 
 /// The tick of a text that gives a moment, with up to seven digits of its second's fraction.
 pub fn read_moment(text: &str) -> Option<u64>
+    ensures value { result ≡ moment_of text.now }
     ensures exact { (tick : ℕ) → (result ≡ Some tick) ↔ IsMoment text.now tick }
     ensures in_time { IfSome result (λ tick. tick ≤ GREATEST) }
     ensures written { (tick : ℕ) → tick ≤ GREATEST → text.now ≡ text_of_moment tick → result ≡ Some tick }

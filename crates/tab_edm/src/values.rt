@@ -1,7 +1,12 @@
-ghost use Rattle.std.specs.Prelude.{◌≡◌, ◌≤◌, IfOk, IsTrue, None, chars};
+//! Values and properties, with the limits of one property: the types of Microsoft's Table service REST reference,
+//! "Understanding the Table service data model", "Property types" (OData 3.0, part "Primitive data types"), and names by
+//! Unicode Standard Annex 31.
+
+ghost use Rattle.std.specs.Prelude.{◌≡◌, ◌≤◌, ◌+◌, ◌*◌, IfOk, IsTrue, None, chars};
 ghost use Rattle.std.specs.Option.{option_map};
 ghost use Rattle.std.specs.List.{list_all};
 ghost use Rattle.unicode_ident.specs.Ident.{is_xid_continue};
+ghost use Rattle.tab_edm.specs.declared.values.TheConstants.{MOST_NAME_CHARACTERS, MOST_BINARY_BYTES};
 ghost use Rattle.tab_edm.specs.Values.{begins_name, is_valid_name, is_small, value_size, property_size};
 ghost use Rattle.tab_edm.specs.Entities.{property_refusal, refused};
 
@@ -9,6 +14,15 @@ use crate::texts::{char_count, unit_count};
 use crate::{BytesValue, Memory, TextValue};
 use std::alloc::Global;
 use unicode_ident::{is_xid_continue, is_xid_start};
+
+/// The most UTF-16 code units of a text.
+const MOST_TEXT_UNITS: usize = 32_768;
+
+/// The most bytes of a binary value.
+const MOST_BINARY_BYTES: usize = 65_536;
+
+/// The most characters of a property's name.
+const MOST_NAME_CHARACTERS: usize = 255;
 
 /// The value of a property, in one of the seven kinds that are served.
 #[derive(Debug, Drop)]
@@ -30,6 +44,7 @@ pub enum Value {
 }
 
 impl Value {
+    /// A copy in memory of its own.
     pub fn try_copy(&self, alloc: Global) -> Result<Value, Memory>
         ensures { IfOk result (λ copy. copy ≡ self.now) }
     {
@@ -50,8 +65,8 @@ impl Value {
         ensures { result ≡ is_small self.now }
     {
         match self {
-            Value::Text(text) => unit_count(text.as_str()) <= 32_768,
-            Value::Bytes(bytes) => bytes.as_slice().len() <= 65_536,
+            Value::Text(text) => unit_count(text.as_str()) <= MOST_TEXT_UNITS,
+            Value::Bytes(bytes) => bytes.as_slice().len() <= MOST_BINARY_BYTES,
             _ => true,
         }
     }
@@ -61,7 +76,7 @@ impl Value {
     fn size(&self) -> u64
         requires { IsTrue (is_small self.now) }
         ensures value { result ≡ value_size self.now }
-        ensures bound { result ≤ 65_540 }
+        ensures bound { result ≤ 4 + MOST_BINARY_BYTES }
     {
         match self {
             Value::Text(text) => 4 + 2 * unit_count(text.as_str()) as u64,
@@ -82,6 +97,7 @@ pub struct Property {
 }
 
 impl Property {
+    /// A copy in memory of its own.
     pub fn try_copy(&self, alloc: Global) -> Result<Property, Memory>
         ensures { IfOk result (λ copy. copy ≡ self.now) }
     {
@@ -99,7 +115,7 @@ impl Property {
         let name = self.name.as_str();
         if !is_identifier(name) {
             Some(PropertyFault::NameInvalid)
-        } else if char_count(name) > 255 {
+        } else if char_count(name) > MOST_NAME_CHARACTERS {
             Some(PropertyFault::NameTooLong)
         } else if !self.value.is_small() {
             Some(PropertyFault::ValueTooLarge)
@@ -113,7 +129,7 @@ impl Property {
     pub(crate) fn size(&self) -> u64
         requires { property_refusal self.now ≡ None }
         ensures value { result ≡ property_size self.now }
-        ensures bound { result ≤ 66_568 }
+        ensures bound { result ≤ 12 + 4 * MOST_NAME_CHARACTERS + MOST_BINARY_BYTES }
     {
         8 + 2 * unit_count(self.name.as_str()) as u64 + self.value.size()
     }

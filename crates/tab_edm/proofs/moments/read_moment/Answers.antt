@@ -1,7 +1,12 @@
 use Rattle.std.specs.Prelude.{codes}
 use Rattle.tab_edm.specs.Moments.{text_of_moment}
 use Rattle.tab_edm.proofs.MomentLaws.{exactly, in_time, written_spells}
+use Rattle.tab_edm.proofs.MomentFunction.{moment_of-exact}
 use Rattle.tab_edm.proofs.moments.read_moment.Goals as goal
+
+pub returns-clause-value : goal.returns-clause-value
+returns-clause-value c =
+    rw (← c.as_bytes.ensures.value) (moment_of-exact c.as_bytes.result.now c.read_tick.result (exactly (codes ":") c.as_bytes.result.now c.read_tick.result c.read_tick.ensures))
 
 pub returns-clause-exact : goal.returns-clause-exact
 returns-clause-exact c =

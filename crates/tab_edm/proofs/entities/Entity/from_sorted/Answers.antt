@@ -8,12 +8,12 @@ returns-in-Some c =
     made-first c.args.pk_units c.args.rk_units c.args.properties.items c.refused.result
     (told _ c.deref.result.now c.in-Some.index c.in-Some.fault c.swap_remove.result _ c.deref.ensures.value c.in-Some.ensures.1 c.swap_remove.ensures.value c.refused.ensures)
 
-pub returns-then-len-gt252 : goal.returns-then-len-gt252
-returns-then-len-gt252 c =
+pub returns-then-len-gt-MOST_PROPERTIES : goal.returns-then-len-gt-MOST_PROPERTIES
+returns-then-len-gt-MOST_PROPERTIES c =
     made-many c.args.pk_units c.args.rk_units c.args.properties.items (ap first_refusal (sym c.deref.ensures.value) ∙ c.in_default.ensures) (omega (arith, ap length c.deref.ensures.value))
 
-pub returns-then-size-gt1048576 : goal.returns-then-size-gt1048576
-returns-then-size-gt1048576 c =
+pub returns-then-size-gt-MOST_SIZE : goal.returns-then-size-gt-MOST_SIZE
+returns-then-size-gt-MOST_SIZE c =
     made-large c.args.pk_units c.args.rk_units c.args.properties.items (ap first_refusal (sym c.deref.ensures.value) ∙ c.in_default.ensures) (omega (arith, ap length c.deref.ensures.value)) (omega (arith, ap (entity_size c.args.pk_units c.args.rk_units) c.deref-2.ensures.value))
 
 pub invariant_of-result : goal.invariant_of-result
