@@ -4,6 +4,7 @@ use Rattle.std.specs.List.{list_any}
 use Rattle.std.specs.Char.Escape.{encode_utf16}
 use Rattle.tab_keys.specs.declared.key_texts.KeyRefused.{KeyRefused}
 use Rattle.tab_keys.specs.declared.key_texts.KeyRefused.TheVariants.{TooLong, BadCharacter}
+use Rattle.tab_keys.specs.declared.key_texts.TheConstants.{MOST_UNITS}
 
 -- the UTF-16 code units of a text
 unfoldable pub units_of : List ℕ → List ℕ
@@ -16,7 +17,7 @@ is_bad_character c = c == 47 || c == 92 || c == 35 || c == 63 || nat_lt c 32 || 
 -- why a text is no key, want of memory aside
 unfoldable pub key_refusal : List ℕ → Option KeyRefused
 key_refusal text =
-    if nat_lt 1024 (length (units_of text)) then Some TooLong else (if list_any is_bad_character (chars text) then Some BadCharacter else None)
+    if nat_lt MOST_UNITS (length (units_of text)) then Some TooLong else (if list_any is_bad_character (chars text) then Some BadCharacter else None)
 
 -- a text that is a key
 pub record IsKeyText (text : List ℕ) : Type 0 where

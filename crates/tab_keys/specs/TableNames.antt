@@ -3,6 +3,7 @@ use Rattle.std.specs.Prelude.{◌≡◌, ℕ, ◌+◌, List, length, map, Bool, 
 use Rattle.std.specs.List.{list_all}
 use Rattle.tab_keys.specs.declared.table_names.NameRefused.{NameRefused}
 use Rattle.tab_keys.specs.declared.table_names.NameRefused.TheVariants.{BadName, Reserved}
+use Rattle.tab_keys.specs.declared.table_names.TheConstants.{LEAST_LETTERS, MOST_LETTERS}
 
 -- an ASCII letter in lower case, and any other byte as it is
 abbrev pub fold_byte : ℕ → ℕ
@@ -21,7 +22,7 @@ is_digit b = nat_le 48 b && nat_le b 57
 -- 3 to 63 ASCII letters and digits that begin with a letter
 unfoldable pub is_well_formed : List ℕ → Bool
 is_well_formed name =
-    nat_le 3 (length name) && nat_le (length name) 63 && is_letter (slice_index name 0) && list_all (λ b. is_letter b || is_digit b) name
+    nat_le LEAST_LETTERS (length name) && nat_le (length name) MOST_LETTERS && is_letter (slice_index name 0) && list_all (λ b. is_letter b || is_digit b) name
 
 -- why a text is no table name, want of memory aside
 unfoldable pub name_refusal : List ℕ → Option NameRefused

@@ -1,3 +1,5 @@
+//! Bounds: the points of the space of keys at which it is cut, one before each partition and one past all keys.
+
 ghost use Rattle.std.specs.Prelude.{◌≡◌, IfOk};
 ghost use Rattle.std.specs.Cmp.{partial_equiv_from_equiv, eq_by_cmp_equiv, partial_order_from_total};
 ghost use Rattle.std.specs.Ordering.{eq_by_cmp, as_partial_cmp};
@@ -19,6 +21,7 @@ pub enum Bound {
 }
 
 impl Bound {
+    /// A copy in memory of its own.
     pub fn try_copy(&self, alloc: Global) -> Result<Bound, Memory>
         ensures { IfOk result (λ copy. copy ≡ self.now) }
     {

@@ -1,3 +1,7 @@
+//! Partition keys and row keys: which texts are keys, and their order. The limits and the characters that are refused are
+//! those of Microsoft's Table service REST reference, "Understanding the Table service data model", "Characters disallowed in
+//! key fields".
+
 ghost use Rattle.std.specs.Prelude.{◌≡◌, length, IfOk, MatchResult, None};
 ghost use Rattle.std.specs.Option.{unwrap_or};
 ghost use Rattle.std.specs.Str.{chars};
@@ -9,8 +13,7 @@ ghost use Rattle.tab_keys.specs.KeyTexts.{units_of, is_bad_character, key_refusa
 ghost use Rattle.tab_keys.specs.Order.{text_cmp};
 ghost use Rattle.tab_keys.specs.TotalOrders.{text_cmp_total};
 
-use crate::Memory;
-use crate::text_order::utf16_cmp;
+use crate::{Memory, utf16_cmp};
 use std::alloc::Global;
 use std::cmp::Ordering;
 use std::marker::Model;
@@ -48,8 +51,8 @@ impl Model for KeyText {
 }
 
 impl KeyText {
-    #[tactic(auto, unfolding(crate::specs::KeyTexts::key_refusal))]
     /// A copy of the text, if it is a key. The empty text is one.
+    #[tactic(auto, unfolding(crate::specs::KeyTexts::key_refusal))]
     pub fn new(alloc: Global, text: &str) -> Result<KeyText, KeyRefused>
         ensures { MatchResult result
             (λ key. (key ≡ text.now) × (key_refusal text.now ≡ None))
@@ -83,13 +86,12 @@ impl KeyText {
         count_units(self.text.as_str())
     }
 
+    /// A copy in memory of its own.
     pub fn try_copy(&self, alloc: Global) -> Result<KeyText, Memory>
         ensures { IfOk result (λ copy. copy ≡ self.now) }
     {
-        match String::from_str(alloc, self.text.as_str()) {
-            Ok(text) => Ok(KeyText { text }),
-            Err(_) => Err(Memory),
-        }
+        let text = String::from_str(alloc, self.text.as_str())?;
+        Ok(KeyText { text })
     }
 }
 

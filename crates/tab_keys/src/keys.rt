@@ -1,3 +1,5 @@
+//! Keys of rows, in the order of their table, their partition key and their row key.
+
 ghost use Rattle.std.specs.Prelude.{◌≡◌, IfOk};
 ghost use Rattle.std.specs.Cmp.{partial_equiv_from_equiv, eq_by_cmp_equiv, partial_order_from_total};
 ghost use Rattle.std.specs.Ordering.{eq_by_cmp, as_partial_cmp};
@@ -30,6 +32,7 @@ impl Key {
         }
     }
 
+    /// A copy in memory of its own.
     pub fn try_copy(&self, alloc: Global) -> Result<Key, Memory>
         ensures { IfOk result (λ copy. copy ≡ self.now) }
     {

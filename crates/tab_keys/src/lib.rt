@@ -15,6 +15,7 @@ pub use keys::Key;
 pub use spans::Span;
 use std::alloc::{AllocError, AllocFailed};
 pub use table_names::{NameRefused, TableName};
+pub use text_order::utf16_cmp;
 
 /// A refusal by want of memory.
 #[derive(Clone, Copy, Debug, PartialEq, Eq)]

@@ -1,3 +1,5 @@
+//! Spans: the keys between two bounds.
+
 ghost use Rattle.std.specs.Prelude.{◌≡◌, IsTrue, IsFalse, MatchOption, IfOk};
 ghost use Rattle.tab_keys.specs.Order.{bound_lt};
 ghost use Rattle.tab_keys.specs.Spans.{has};
@@ -35,6 +37,7 @@ impl Span {
         if lo < hi { Some(Span { lo, hi }) } else { None }
     }
 
+    /// The bound that it begins at.
     pub fn lo(&self) -> &Bound
         ensures bound { result.now ≡ self.now.lo }
         ensures ordered { IsTrue (bound_lt self.now.lo self.now.hi) }
@@ -42,6 +45,7 @@ impl Span {
         &self.lo
     }
 
+    /// The bound that it ends before.
     pub fn hi(&self) -> &Bound
         ensures bound { result.now ≡ self.now.hi }
         ensures ordered { IsTrue (bound_lt self.now.lo self.now.hi) }
@@ -49,12 +53,14 @@ impl Span {
         &self.hi
     }
 
+    /// Whether the key is one of its keys.
     pub fn has(&self, key: &Key) -> bool
         ensures { result ≡ has self.now key.now }
     {
         !key.is_before(&self.lo) && key.is_before(&self.hi)
     }
 
+    /// A copy in memory of its own.
     pub fn try_copy(&self, alloc: Global) -> Result<Span, Memory>
         ensures { IfOk result (λ copy. copy ≡ self.now) }
     {

@@ -1,3 +1,6 @@
+//! Table names: which texts are names, and when two are one. The rules are those of Microsoft's Table service REST
+//! reference, "Understanding the Table service data model", "Table names".
+
 ghost use Rattle.std.specs.Prelude.{◌≡◌, length, IfOk, MatchResult, None, bytes_eq, codes, ◌||◌};
 ghost use Rattle.std.specs.Option.{unwrap_or};
 ghost use Rattle.std.specs.List.{list_all};
@@ -77,13 +80,12 @@ impl TableName {
         self.text.as_str()
     }
 
+    /// A copy in memory of its own.
     pub fn try_copy(&self, alloc: Global) -> Result<TableName, Memory>
         ensures { IfOk result (λ copy. copy ≡ self.now) }
     {
-        match String::from_str(alloc, self.text.as_str()) {
-            Ok(text) => Ok(TableName { text }),
-            Err(_) => Err(Memory),
-        }
+        let text = String::from_str(alloc, self.text.as_str())?;
+        Ok(TableName { text })
     }
 }
 

@@ -1,9 +1,12 @@
+//! The order of texts by their UTF-16 code units (RFC 2781, section 2.1), computed on their UTF-8 bytes (RFC 3629,
+//! section 3).
+
 ghost use Rattle.std.specs.Prelude.{◌≡◌};
 ghost use Rattle.tab_keys.specs.Order.{text_cmp, byte_rank};
 
 use std::cmp::Ordering;
 
-/// Compares two texts by their UTF-16 code units, and reads each byte once.
+/// Compares two texts by their UTF-16 code units, as keys are ordered. It reads each byte once, and decodes none.
 pub fn utf16_cmp(a: &str, b: &str) -> Ordering
     ensures { result ≡ text_cmp a.now b.now }
 {
