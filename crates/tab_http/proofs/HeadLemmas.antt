@@ -13,6 +13,7 @@ use Rattle.httparse.specs.declared.spans.RequestSpans.{RequestSpans}
 use Rattle.tab_outside.specs.declared.Memory.{Memory}
 use Rattle.tab_http.specs.Heads.{HasNoHead, header_of, IsHead, IsFrontHead, header_at}
 use Rattle.tab_http.specs.declared.heads.Head.{Head}
+use Rattle.tab_http.specs.declared.TheConstants.{LONGEST_HEAD, MOST_HEADERS}
 
 -- ---- the parts of a head
 
@@ -51,7 +52,7 @@ headers_same buf (s ∷ spans) (f ∷ fields) same =
     cc
 
 pub front_head : (buf : List ℕ) (spans : List HeaderSpan) (r : RequestSpans) (h : RequestHead) (head : Head)
-    → IsRequestWithin buf spans r → IsRequestAt buf spans r h → length spans ≤ 64
+    → IsRequestWithin buf spans r → IsRequestAt buf spans r h → length spans ≤ MOST_HEADERS
     → head.method ≡ span_bytes buf r.method → head.target ≡ span_bytes buf r.path → head.minor ≡ r.version → head.headers ≡ map (header_at buf) (take r.headers spans) → head.len ≡ r.len
     → IsFrontHead buf h head
 front_head buf spans r h head within at room method target minor headers len = record {
@@ -69,7 +70,7 @@ front_head buf spans r h head within at room method target minor headers len = r
 -- ---- heads and what is behind them
 
 -- a head that ends in the front of the bytes is at the front of them all
-pub whole_head : (bytes : List ℕ) (n : ℕ) (h : RequestHead) (head : Head) → n ≤ 32768 → IsFrontHead (take n bytes) h head → IsHead bytes head
+pub whole_head : (bytes : List ℕ) (n : ℕ) (h : RequestHead) (head : Head) → n ≤ LONGEST_HEAD → IsFrontHead (take n bytes) h head → IsHead bytes head
 whole_head bytes n h head within front =
     let ends : take n bytes ≡ print_request h ++ drop head.len (take n bytes) = front.reads.1 in
     let size : length (print_request h) ≡ head.len = sym front.parts.len in
@@ -94,14 +95,14 @@ front_reads bytes n h rest reads short =
     (reads.0, sym (take-append-drop size (take n bytes)) ∙ ap (λ (xs : List ℕ). xs ++ drop size (take n bytes)) same)
 
 -- the front of the bytes shows that they begin with no head
-pub no_whole_head : (bytes : List ℕ) (n : ℕ) → n ≡ min (length bytes) 32768 → ((h : RequestHead) (rest : List ℕ) → ReadsRequest (take n bytes) h rest → 64 < length h.fields) → HasNoHead bytes
+pub no_whole_head : (bytes : List ℕ) (n : ℕ) → n ≡ min (length bytes) LONGEST_HEAD → ((h : RequestHead) (rest : List ℕ) → ReadsRequest (take n bytes) h rest → MOST_HEADERS < length h.fields) → HasNoHead bytes
 no_whole_head bytes n least none h rest begins =
     let inside : length (print_request h) ≤ length bytes = omega (arith, ap length begins.reads.1, length-append (print_request h) rest) in
     let many = none h _ (front_reads bytes n h rest begins.reads (omega (arith, begins.short, least))) in
     absurd (omega (arith, many, begins.few))
 
-pub whole_found : (bytes : List ℕ) (n : ℕ) (r : Result (Option Head) Memory) → n ≡ min (length bytes) 32768
-    → IfOk r (λ found. MatchOption found ((h : RequestHead) (rest : List ℕ) → ReadsRequest (take n bytes) h rest → 64 < length h.fields) (λ head. (h : RequestHead) × IsFrontHead (take n bytes) h head))
+pub whole_found : (bytes : List ℕ) (n : ℕ) (r : Result (Option Head) Memory) → n ≡ min (length bytes) LONGEST_HEAD
+    → IfOk r (λ found. MatchOption found ((h : RequestHead) (rest : List ℕ) → ReadsRequest (take n bytes) h rest → MOST_HEADERS < length h.fields) (λ head. (h : RequestHead) × IsFrontHead (take n bytes) h head))
     → IfOk r (λ found. MatchOption found (HasNoHead bytes) (IsHead bytes))
 whole_found bytes n (Ok (Some head)) least found = whole_head bytes n found.0 head (omega arith) found.1
 whole_found bytes n (Ok None) least none = no_whole_head bytes n least none

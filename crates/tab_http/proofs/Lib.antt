@@ -1,6 +1,6 @@
 mod BodyLemmas
-mod DecimalLemmas
-mod Exits
+pub mod DecimalLemmas
+pub mod Exits
 mod HeadLemmas
 mod HeaderLemmas
 mod MessageLemmas

@@ -12,6 +12,7 @@ use Rattle.tab_http.specs.declared.messages.Header.{Header}
 use Rattle.tab_http.specs.declared.messages.Message.{Message}
 use Rattle.tab_http.specs.declared.refusals.HttpRefused.{HttpRefused}
 use Rattle.tab_http.specs.declared.refusals.HttpRefused.TheVariants.{EndBetween, EndInside, Malformed, HeadTooLong, NoLength, BodyTooLong, ReadFault, Memory}
+use Rattle.tab_http.specs.declared.TheConstants.{LONGEST_BODY, LONGEST_HEAD}
 
 -- ---- the size of a body
 
@@ -44,7 +45,7 @@ announced_refusal headers = length_refusal headers _
 
 size_refusal : (method : List ℕ) (o : Option ℕ) → Refusal (size_for method o)
 size_refusal method None = by_cond (needs_length method) (Err NoLength) (Ok 0) tt tt
-size_refusal method (Some n) = by_cond (nat_le n 4194304) (Ok n) (Err BodyTooLong) tt tt
+size_refusal method (Some n) = by_cond (nat_le n LONGEST_BODY) (Ok n) (Err BodyTooLong) tt tt
 
 coded_refusal : (method : List ℕ) (coded : Bool) (r : Result (Option ℕ) HttpRefused) → Refusal r → Refusal (size_unless_coded method coded r)
 coded_refusal method coded (Err e) is = is
@@ -131,12 +132,12 @@ bytes_spell_one_answer bytes a b (without_head r none p e) (without_head s none_
 -- ---- some answer
 
 pub bytes_spell_some_answer : (bytes : List ℕ) → ((answer : Answer) → Spells bytes answer → ⊥) → ⊥
-bytes_spell_some_answer bytes none = refuse (cases_lt (length bytes) 32768)
+bytes_spell_some_answer bytes none = refuse (cases_lt (length bytes) LONGEST_HEAD)
   where
     no_head : HasNoHead bytes
     no_head h behind begins = none (answer_of h behind) (behind_head h behind begins refl)
 
-    refuse : (length bytes < 32768) ⊎ (32768 ≤ length bytes) → ⊥
+    refuse : (length bytes < LONGEST_HEAD) ⊎ (LONGEST_HEAD ≤ length bytes) → ⊥
     refuse (inr many) = none (Err HeadTooLong) (without_head HeadTooLong no_head many refl)
     refuse (inl few) = few_bytes (cases_lt 0 (length bytes))
       where

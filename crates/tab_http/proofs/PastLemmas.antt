@@ -1,5 +1,5 @@
 -- How far past a message the bytes may have come that spell it.
-use Rattle.std.proofs.Common.{◌≡◌, ℕ, ◌<◌, ◌≤◌, ⊎_elim, max, List, ◌++◌, length, take, drop, refl, sym, ap, ◌∙◌, subst, arith, append-nil, append_assoc, length-append}
+use Rattle.std.proofs.Common.{◌≡◌, ℕ, ◌-◌, ◌<◌, ◌≤◌, ⊎_elim, max, List, ◌++◌, length, take, drop, refl, sym, ap, ◌∙◌, subst, arith, append-nil, append_assoc, length-append}
 use Rattle.std.specs.Prelude.{Option, Result, Ok, Err}
 use Rattle.std.proofs.lemmas.Bool.{cases_lt}
 use Rattle.std.proofs.lemmas.List.{take-append-le, length-drop}
@@ -11,6 +11,7 @@ use Rattle.tab_http.specs.Reading.{WereNeeded, none, last, TookMessage}
 use Rattle.tab_http.specs.declared.messages.Message.{Message}
 use Rattle.tab_http.specs.declared.refusals.HttpRefused.{HttpRefused}
 use Rattle.tab_http.specs.declared.refusals.HttpRefused.TheVariants.{EndInside}
+use Rattle.tab_http.specs.declared.TheConstants.{LONGEST_READ}
 
 -- a message that a head and the bytes behind it make, by the size of its body
 record Made (h : RequestHead) (behind : List ℕ) (size : Result ℕ HttpRefused) (message : Message) (after : List ℕ) : Type 0 where
@@ -58,17 +59,17 @@ spelled_before bytes more message after (behind_head h behind begins is) enough 
     ap (λ (m : Message). Ok (m, drop whole.count (drop size bytes))) (whole.message_is ∙ ap (message_of h) body) ∙ sym (body_whole h (drop size bytes) whole.count room) ∙ sym (ap (with_body h (drop size bytes)) whole.sized) in
     (drop whole.count (drop size bytes), behind_head h (drop size bytes) (record { reads = there.0; few = begins.few; short = begins.short }) answers)
 
-by_needed : (before came : List ℕ) (message : Message) (after : List ℕ) → WereNeeded before came → Spells (before ++ came) (Ok (message, after)) → length after ≤ max (length before) 4095
+by_needed : (before came : List ℕ) (message : Message) (after : List ℕ) → WereNeeded before came → Spells (before ++ came) (Ok (message, after)) → length after ≤ max (length before) (LONGEST_READ - 1)
 by_needed before came message after (none e) spells =
     let within = after_within (before ++ came) message after spells in
     omega (arith, within, ap length (ap (λ (xs : List ℕ). before ++ xs) e ∙ append-nil before))
 by_needed before came message after (last front more e little is_open) spells = ⊎_elim (λ fewer. omega arith) past (cases_lt (length after) (length more))
   where
-    past : length more ≤ length after → length after ≤ max (length before) 4095
+    past : length more ≤ length after → length after ≤ max (length before) (LONGEST_READ - 1)
     past enough =
         let same = ap (λ (xs : List ℕ). before ++ xs) e ∙ sym (append_assoc before front more) in
         let found = spelled_before (before ++ front) more message after (subst (λ (bytes : List ℕ). Spells bytes (Ok (message, after))) same spells) enough in
         absurd (open_spells_none (before ++ front) message found.0 is_open found.1)
 
-pub little_past : (old new : Option (List ℕ)) (before after : List ℕ) (message : Message) → TookMessage old new before after message → length after ≤ max (length before) 4095
+pub little_past : (old new : Option (List ℕ)) (before after : List ℕ) (message : Message) → TookMessage old new before after message → length after ≤ max (length before) (LONGEST_READ - 1)
 little_past old new before after message took = by_needed before took.came message after took.needed took.spells

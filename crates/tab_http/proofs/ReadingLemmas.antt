@@ -17,11 +17,12 @@ use Rattle.tab_http.specs.declared.head_states.HeadState.TheVariants.{Blank, End
 use Rattle.tab_http.specs.declared.refusals.HttpRefused.{HttpRefused}
 use Rattle.tab_http.specs.declared.refusals.HttpRefused.TheVariants.{EndBetween, EndInside, Malformed, HeadTooLong, NoLength, BodyTooLong, ReadFault, Memory}
 use Rattle.tab_outside.specs.Transfers.{Moved}
+use Rattle.tab_http.specs.declared.TheConstants.{LONGEST_HEAD, LONGEST_READ}
 
 -- ---- read by read
 
 -- one read more of what is still open
-pub gathered_more : (old middle new : Option (List ℕ)) (before there after : List ℕ) → Gathered old middle before there → IsOpen there → Moved middle new there after → length after ≤ length there + 4096
+pub gathered_more : (old middle new : Option (List ℕ)) (before there after : List ℕ) → Gathered old middle before there → IsOpen there → Moved middle new there after → length after ≤ length there + LONGEST_READ
     → Gathered old new before after
 gathered_more old middle new before there after first is_open moved little = record {
   came = first.came ++ moved.bytes;
@@ -31,7 +32,7 @@ gathered_more old middle new before there after first is_open moved little = rec
 }
 
 -- bytes in which no head has ended are open
-pub open_before_end : (bytes : List ℕ) → state_after bytes ≢ Ended → length bytes < 32768 → IsOpen bytes
+pub open_before_end : (bytes : List ℕ) → state_after bytes ≢ Ended → length bytes < LONGEST_HEAD → IsOpen bytes
 open_before_end bytes not_yet short = in_head (λ h rest begins. not_yet (head_ends bytes h rest begins.reads)) short
 
 -- bytes that never have a head still have none when more have come
@@ -39,7 +40,7 @@ pub still_none : (old new : Option (List ℕ)) (before after : List ℕ) → Nev
 still_none old new before after never gathered = subst HasNoHead (sym gathered.behind) (never gathered.came)
 
 -- bytes that never have a head are open
-pub open_without_head : (old new : Option (List ℕ)) (before after : List ℕ) → NeverHasHead before → Gathered old new before after → length after < 32768 → IsOpen after
+pub open_without_head : (old new : Option (List ℕ)) (before after : List ℕ) → NeverHasHead before → Gathered old new before after → length after < LONGEST_HEAD → IsOpen after
 open_without_head old new before after never gathered short = in_head (still_none old new before after never gathered) short
 
 -- the state behind all bytes, from that behind those which were seen
@@ -56,7 +57,7 @@ pub state_read : (bytes shown : List ℕ) (seen : ℕ) (state after : HeadState)
 state_read bytes shown seen state after same is scanned = rw same at (rw take_rest at scanned) ∙ state_behind bytes seen state is
 
 -- bytes behind which no head has ended, by a test of their state
-pub open_at : (bytes : List ℕ) (state : HeadState) (test : Bool) → state ≡ state_after bytes → ((test ≡ true) ↔ (state ≡ Ended)) → test ≡ false → length bytes < 32768 → IsOpen bytes
+pub open_at : (bytes : List ℕ) (state : HeadState) (test : Bool) → state ≡ state_after bytes → ((test ≡ true) ↔ (state ≡ Ended)) → test ≡ false → length bytes < LONGEST_HEAD → IsOpen bytes
 open_at bytes state test is tells not_yet short = open_before_end bytes (λ ended. both_ways test not_yet (tells.1 (is ∙ ended))) short
 
 -- a read that was refused where the bytes are open
@@ -108,14 +109,14 @@ head_within bytes more h rest reads short =
     ((reads.0, sym (take-append-drop size bytes) ∙ ap (λ (xs : List ℕ). xs ++ drop size bytes) front), behind)
 
 -- bytes in which a head may have ended, or which are as many as a head may have, never have one that they have not
-pub never_later : (bytes : List ℕ) → HasNoHead bytes → (state_after bytes ≡ Ended) ⊎ (32768 ≤ length bytes) → NeverHasHead bytes
+pub never_later : (bytes : List ℕ) → HasNoHead bytes → (state_after bytes ≡ Ended) ⊎ (LONGEST_HEAD ≤ length bytes) → NeverHasHead bytes
 never_later bytes no_head reached more h rest begins =
     let inside : length (print_request h) ≤ length bytes = ⊎_elim (λ ended. ended_within bytes more h rest ended begins.reads) (λ many. omega (arith, many, begins.short)) reached in
     no_head h (drop (length (print_request h)) bytes) (record { reads = (head_within bytes more h rest begins.reads inside).0; few = begins.few; short = begins.short })
 
 -- bytes that are refused without a head, as too many or as the input ends
 pub refused_headless : (new : Option (List ℕ)) (shown bytes : List ℕ) (refused : HttpRefused) → shown ≡ bytes → HasNoHead bytes → RefusesHeadless (length shown) refused → IsParsed shown refused
-    → (32768 ≤ length bytes) ⊎ IsAtEnd new → HeadRefused new bytes refused
+    → (LONGEST_HEAD ≤ length bytes) ⊎ IsAtEnd new → HeadRefused new bytes refused
 refused_headless new shown bytes EndBetween same no_head cause parsed reached = record {
   no_head = no_head;
   cause = rw (sym same) cause;

@@ -16,10 +16,11 @@ use Rattle.tab_http.specs.declared.messages.Header.{Header}
 use Rattle.tab_http.specs.declared.messages.Message.{Message}
 use Rattle.tab_http.specs.declared.refusals.HttpRefused.{HttpRefused}
 use Rattle.tab_http.specs.declared.refusals.HttpRefused.TheVariants.{EndBetween, EndInside, Malformed, HeadTooLong, NoLength, BodyTooLong, ReadFault, Memory}
+use Rattle.tab_http.specs.declared.TheConstants.{LONGEST_HEAD, LONGEST_READ}
 
 -- ---- no head
 
-stays_too_long : (bytes : List ℕ) → HasNoHead bytes → 32768 ≤ length bytes → StaysRefused bytes HeadTooLong
+stays_too_long : (bytes : List ℕ) → HasNoHead bytes → LONGEST_HEAD ≤ length bytes → StaysRefused bytes HeadTooLong
 stays_too_long bytes no_head many more = without_head HeadTooLong (never_later bytes no_head (inr many) more) (omega (arith, length-append bytes more, many)) refl
 
 settled_headless : (new : Option (List ℕ)) (bytes : List ℕ) (refused : HttpRefused) → WithoutHead new bytes refused → StaysRefused bytes refused ⊎ IsAtEnd new
@@ -72,14 +73,14 @@ refuses_size old new before after _ h behind may gathered begins is = absurd may
 
 -- what came for the head and then for the body, where the bytes before the last read were short of a body
 needed_on : (before there xs ys : List ℕ) (h : RequestHead) (behind : List ℕ) (size : ℕ) → there ≡ before ++ xs → BeginsWithHead there h behind → size_of_body h ≡ Ok size
-    → WereNeeded before xs → (0 < length ys → (front : List ℕ) × (more : List ℕ) × (ys ≡ front ++ more) × (length more ≤ 4096) × (length (behind ++ front) < size)) → WereNeeded before (xs ++ ys)
+    → WereNeeded before xs → (0 < length ys → (front : List ℕ) × (more : List ℕ) × (ys ≡ front ++ more) × (length more ≤ LONGEST_READ) × (length (behind ++ front) < size)) → WereNeeded before (xs ++ ys)
 needed_on before there xs [] h behind size is begins sized first later = subst (WereNeeded before) (sym (append-nil xs)) first
 needed_on before there xs (y ∷ ys) h behind size is begins sized first later =
     let short = later (omega arith) in
     last (xs ++ short.0) short.1 (ap (λ (zs : List ℕ). xs ++ zs) short.2 ∙ sym (append_assoc xs short.0 short.1)) short.3
     (subst IsOpen (ap (λ (zs : List ℕ). zs ++ short.0) is ∙ append_assoc before xs short.0) (in_body h (behind ++ short.0) size (begins_more there h behind short.0 begins) sized short.4))
 
-whole_is_short : (behind ys : List ℕ) (size : ℕ) → length (behind ++ ys) < size → (front : List ℕ) × (more : List ℕ) × (ys ≡ front ++ more) × (length more ≤ 4096) × (length (behind ++ front) < size)
+whole_is_short : (behind ys : List ℕ) (size : ℕ) → length (behind ++ ys) < size → (front : List ℕ) × (more : List ℕ) × (ys ≡ front ++ more) × (length more ≤ LONGEST_READ) × (length (behind ++ front) < size)
 whole_is_short behind ys size short = (ys, [], sym (append-nil ys), omega arith, short)
 
 -- the bytes of a head and a body that is not whole are open
@@ -127,7 +128,7 @@ refuses_body old middle new before there h behind size _ gathered begins sized i
 
 -- the front of what came for a body, without its last byte, is short of it
 front_is_short : (behind ys body after : List ℕ) (size : ℕ) → behind ++ ys ≡ body ++ after → length body ≡ size → (0 < length ys → after ≡ []) → 0 < length ys
-    → (front : List ℕ) × (more : List ℕ) × (ys ≡ front ++ more) × (length more ≤ 4096) × (length (behind ++ front) < size)
+    → (front : List ℕ) × (more : List ℕ) × (ys ≡ front ++ more) × (length more ≤ LONGEST_READ) × (length (behind ++ front) < size)
 front_is_short behind ys body after size whole exact missing some =
     let count = length ys - 1 in
     let full : length behind + length ys ≡ size =

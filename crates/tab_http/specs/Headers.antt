@@ -8,6 +8,7 @@ use Rattle.httparse.specs.Grammar.{trim_ows}
 use Rattle.tab_http.specs.declared.messages.Header.{Header}
 use Rattle.tab_http.specs.declared.refusals.HttpRefused.{HttpRefused}
 use Rattle.tab_http.specs.declared.refusals.HttpRefused.TheVariants.{Malformed, NoLength, BodyTooLong}
+use Rattle.tab_http.specs.declared.TheConstants.{LONGEST_BODY}
 
 -- ---- names and values
 
@@ -54,7 +55,7 @@ needs_length method = bytes_eq method (codes "POST") || bytes_eq method (codes "
 -- the size of a body with that length, by a request of that method
 abbrev pub size_for : List ℕ → Option ℕ → Result ℕ HttpRefused
 size_for method None = if needs_length method then Err NoLength else Ok 0
-size_for method (Some length) = if nat_le length 4194304 then Ok length else Err BodyTooLong
+size_for method (Some length) = if nat_le length LONGEST_BODY then Ok length else Err BodyTooLong
 
 -- a length that can't be read is refused before a transfer coding, which none is taken of
 abbrev pub size_unless_coded : List ℕ → Bool → Result (Option ℕ) HttpRefused → Result ℕ HttpRefused

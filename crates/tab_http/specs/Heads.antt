@@ -5,12 +5,13 @@ use Rattle.httparse.specs.Spans.{span_bytes}
 use Rattle.httparse.specs.declared.spans.HeaderSpan.{HeaderSpan}
 use Rattle.tab_http.specs.declared.heads.Head.{Head}
 use Rattle.tab_http.specs.declared.messages.Header.{Header}
+use Rattle.tab_http.specs.declared.TheConstants.{LONGEST_HEAD, MOST_HEADERS}
 
 -- the bytes begin with a head of at most 64 headers that ends within 32,768 bytes, and the rest is behind it
 pub record BeginsWithHead (bytes : List ℕ) (h : RequestHead) (rest : List ℕ) : Type 0 where
   pub reads : ReadsRequest bytes h rest
-  pub few : length h.fields ≤ 64
-  pub short : length (print_request h) ≤ 32768
+  pub few : length h.fields ≤ MOST_HEADERS
+  pub short : length (print_request h) ≤ LONGEST_HEAD
 
 -- the bytes begin with no such head
 abbrev pub HasNoHead : List ℕ → Type 0
@@ -41,7 +42,7 @@ pub record IsHead (bytes : List ℕ) (head : Head) : Type 0 where
 -- the same for a head of any length
 pub record IsFrontHead (bytes : List ℕ) (h : RequestHead) (head : Head) : Type 0 where
   pub reads : ReadsRequest bytes h (drop head.len bytes)
-  pub few : length h.fields ≤ 64
+  pub few : length h.fields ≤ MOST_HEADERS
   pub parts : HasParts h head
 
 -- the header that a span covers

@@ -7,6 +7,7 @@ use Rattle.tab_http.specs.Heads.{BeginsWithHead, HasNoHead, headers_of}
 use Rattle.tab_http.specs.declared.messages.Message.{Message}
 use Rattle.tab_http.specs.declared.refusals.HttpRefused.{HttpRefused}
 use Rattle.tab_http.specs.declared.refusals.HttpRefused.TheVariants.{EndBetween, EndInside, Malformed, HeadTooLong}
+use Rattle.tab_http.specs.declared.TheConstants.{LONGEST_HEAD, MOST_HEADERS}
 
 -- a message and the bytes behind it, or a refusal
 abbrev pub Answer : Type 0
@@ -32,9 +33,9 @@ answer_of h behind = with_body h behind (size_of_body h)
 -- between two refusals.
 abbrev pub RefusesHeadless : ℕ → HttpRefused → Type 0
 RefusesHeadless size EndBetween = size ≡ 0
-RefusesHeadless size EndInside = (0 < size) × (size < 32768)
-RefusesHeadless size Malformed = (0 < size) × (size < 32768)
-RefusesHeadless size HeadTooLong = 32768 ≤ size
+RefusesHeadless size EndInside = (0 < size) × (size < LONGEST_HEAD)
+RefusesHeadless size Malformed = (0 < size) × (size < LONGEST_HEAD)
+RefusesHeadless size HeadTooLong = LONGEST_HEAD ≤ size
 RefusesHeadless size _ = ⊥
 
 -- what bytes spell, when no more follow
@@ -48,11 +49,11 @@ IsParsers answer = (answer ≡ Err Malformed) ⊎ (answer ≡ Err EndInside)
 
 -- What the parser says of bytes without a head: that whatever follows them makes no head, or that some bytes may.
 abbrev pub IsParsed : List ℕ → HttpRefused → Type 0
-IsParsed bytes Malformed = RequestOverflows 64 bytes
+IsParsed bytes Malformed = RequestOverflows MOST_HEADERS bytes
 IsParsed bytes EndInside = MayBecomeRequest bytes
 IsParsed bytes _ = ⊤
 
 -- more bytes may change what these spell, since their head has not ended, or their body is not whole
 pub data IsOpen (bytes : List ℕ) : Type 0 where
-  in_head : HasNoHead bytes → length bytes < 32768 → IsOpen bytes
+  in_head : HasNoHead bytes → length bytes < LONGEST_HEAD → IsOpen bytes
   in_body : (h : RequestHead) (behind : List ℕ) (size : ℕ) → BeginsWithHead bytes h behind → size_of_body h ≡ Ok size → length behind < size → IsOpen bytes

@@ -7,14 +7,15 @@ use Rattle.tab_http.specs.declared.messages.Message.{Message}
 use Rattle.tab_http.specs.declared.refusals.HttpRefused.{HttpRefused}
 use Rattle.tab_http.specs.declared.refusals.HttpRefused.TheVariants.{EndInside, HeadTooLong, ReadFault, Memory}
 use Rattle.tab_outside.specs.declared.transfers.FillRefused.{FillRefused}
-use Rattle.tab_outside.specs.declared.transfers.FillRefused.TheVariants.{Ended, Failed, Memory as NoRoom}
+use Rattle.tab_outside.specs.declared.transfers.FillRefused.TheVariants as fill
+use Rattle.tab_http.specs.declared.TheConstants.{LONGEST_READ}
 
 -- ---- messages
 
 -- No read was made in vain: nothing came, or the bytes before the last were open, and these are as many as one read asks for.
 pub data WereNeeded (before came : List ℕ) : Type 0 where
   none : came ≡ [] → WereNeeded before came
-  last : (front more : List ℕ) → came ≡ front ++ more → length more ≤ 4096 → IsOpen (before ++ front) → WereNeeded before came
+  last : (front more : List ℕ) → came ≡ front ++ more → length more ≤ LONGEST_READ → IsOpen (before ++ front) → WereNeeded before came
 
 -- what came behind the bytes before makes them spell the message, and those after are behind it
 pub record TookMessage (old new : Option (List ℕ)) (before after : List ℕ) (message : Message) : Type 0 where
@@ -124,6 +125,6 @@ BodyRefused old new there size _ = ⊥
 
 -- what a body that did not come whole is answered with
 abbrev pub refusal_for : FillRefused → HttpRefused
-refusal_for Ended = EndInside
-refusal_for Failed = ReadFault
-refusal_for NoRoom = Memory
+refusal_for fill.Ended = EndInside
+refusal_for fill.Failed = ReadFault
+refusal_for fill.Memory = Memory

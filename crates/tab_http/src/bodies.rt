@@ -1,3 +1,4 @@
+//! Bodies of a length that their head gives (RFC 9112, section 6.2).
 ghost use Rattle.std.specs.Prelude.{◌≡◌, ◌≤◌, drop, vec_len, IfOk, IfErr, IsErrOf};
 ghost use Rattle.tab_http.specs.Reading.{TookBody, BodyRefused, refusal_for};
 ghost use Rattle.tab_outside.specs.Faults.{Rose};

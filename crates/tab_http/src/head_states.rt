@@ -1,3 +1,5 @@
+//! Where a head may have ended: behind the first empty line (RFC 9112, section 2.1), found byte by byte, so that the parser runs
+//! once.
 ghost use Rattle.std.specs.Prelude.{◌≡◌, ◌↔◌, IsTrue, fold};
 ghost use Rattle.tab_http.specs.HeadStates.{next_state};
 ghost use Rattle.tab_http.specs.declared.head_states.HeadState.TheVariants.{Ended};
@@ -39,6 +41,7 @@ impl HeadState {
         }
     }
 
+    /// Whether a head may have ended.
     pub fn is_ended(self) -> bool
         ensures { IsTrue result ↔ (self ≡ Ended) }
     {

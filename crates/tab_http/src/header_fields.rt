@@ -1,14 +1,12 @@
+//! What the header fields say of the body (RFC 9112, section 6.3) and of the connection (RFC 9112, section 9.6).
 ghost use Rattle.std.specs.Prelude.{◌≡◌, reverse};
 ghost use Rattle.httparse.specs.Grammar.{skip_ows, trim_ows};
 ghost use Rattle.tab_http.specs.Headers.{have_length, needs_length, announced, size_for, body_size, is_close, says_close, closes};
 
-use crate::HttpRefused;
 use crate::decimals::decimal_value;
 use crate::messages::{Header, first_value};
+use crate::{HttpRefused, LONGEST_BODY};
 use httparse::is_space_or_tab;
-
-/// The longest body that is read, in bytes.
-const LONGEST_BODY: u64 = 4_194_304;
 
 /// The size of the body that a head announces, or why it has none.
 #[tactic(auto, unfolding(crate::specs::Headers::body_size))]

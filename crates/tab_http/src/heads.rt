@@ -1,38 +1,39 @@
+//! Heads of requests: the request line and the header fields (RFC 9112, sections 3 and 5), read by `httparse`.
 ghost use Rattle.std.specs.Prelude.{◌≡◌, ℕ, ◌<◌, ◌≤◌, List, length, map, All, IsUtf8, IfOk, MatchOption, MatchBool};
 ghost use Rattle.httparse.specs.Grammar.{RequestHead, ReadsRequest, MayBecomeRequest};
 ghost use Rattle.httparse.specs.Spans.{IsHeaderWithin, RequestOverflows, span_bytes};
 ghost use Rattle.tab_http.specs.Heads.{HasNoHead, HasParts, IsHead, IsFrontHead, header_at};
 ghost use Rattle.tab_http.specs.Messages.{message_of};
+ghost use Rattle.tab_http.specs.declared.TheConstants.{LONGEST_HEAD, MOST_HEADERS};
 
 use crate::header_fields::closes;
 use crate::messages::{Header, Headers, Message};
 use crate::texts::{Bytes, Text};
+use crate::{LONGEST_HEAD, MOST_HEADERS};
 use httparse::Status;
 use httparse::spans::{EMPTY_HEADER_SPAN, HeaderSpan, parse_request};
 use std::alloc::Global;
 use std::str;
 use tab_outside::Memory;
 
-/// The most bytes that a head may have.
-pub const LONGEST_HEAD: usize = 32_768;
-
-/// The most headers that a head may have.
-const MOST_HEADERS: usize = 64;
-
 /// The head of a request.
 #[derive(Debug, Drop)]
 pub struct Head {
+    /// The method as it stands there; case counts (RFC 9110, section 9.1).
     pub method: Text,
+    /// The target as it stands there, in whichever of its forms (RFC 9112, section 3.2).
     pub target: Text,
     /// The minor version, 0 or 1.
     pub minor: u8,
+    /// The header fields, in the order in which they stand.
     pub headers: Headers,
     /// How many bytes it takes.
     pub len: usize,
 }
 
 impl Head {
-    /// The head at the front of the bytes, if one of at most 64 headers ends within 32,768 bytes.
+    /// The head at the front of the bytes, if one of at most 64 headers ends within 32,768 bytes. Empty lines before it are
+    /// part of it (RFC 9112, section 2.2).
     pub fn read(alloc: Global, bytes: &[u8]) -> Result<Option<Head>, Memory>
         ensures { IfOk result (λ found. MatchOption found (HasNoHead bytes.now) (IsHead bytes.now)) }
     {
@@ -43,7 +44,7 @@ impl Head {
     /// The head at the front of the bytes, if one has at most 64 headers.
     fn read_front(alloc: Global, bytes: &[u8]) -> Result<Option<Head>, Memory>
         ensures { IfOk result (λ found. MatchOption found
-            ((h : RequestHead) (rest : List ℕ) → ReadsRequest bytes.now h rest → 64 < length h.fields)
+            ((h : RequestHead) (rest : List ℕ) → ReadsRequest bytes.now h rest → MOST_HEADERS < length h.fields)
             (λ head. (h : RequestHead) × IsFrontHead bytes.now h head)) }
     {
         let mut spans = [EMPTY_HEADER_SPAN; MOST_HEADERS];
@@ -80,8 +81,8 @@ impl Head {
 /// Whether no bytes that may follow make a head of these, which begin with none.
 pub(crate) fn is_beyond_repair(bytes: &[u8]) -> bool
     requires none { HasNoHead bytes.now }
-    requires short { length bytes.now ≤ 32768 }
-    ensures { MatchBool result (RequestOverflows 64 bytes.now) (MayBecomeRequest bytes.now) }
+    requires short { length bytes.now ≤ LONGEST_HEAD }
+    ensures { MatchBool result (RequestOverflows MOST_HEADERS bytes.now) (MayBecomeRequest bytes.now) }
 {
     let mut spans = [EMPTY_HEADER_SPAN; MOST_HEADERS];
     parse_request(bytes, &mut spans).is_err()
@@ -97,9 +98,7 @@ fn headers_of(alloc: Global, bytes: &[u8], spans: &[HeaderSpan]) -> Result<Heade
     for span in spans {
         let name = text_of(alloc, span.name.of(bytes))?;
         let value = bytes_of(alloc, span.value.of(bytes))?;
-        let Ok(()) = headers.push(Header { name, value }) else {
-            return Err(Memory);
-        };
+        headers.push(Header { name, value })?;
     }
     Ok(Headers::new(headers))
 }
@@ -109,17 +108,11 @@ fn text_of(alloc: Global, bytes: &[u8]) -> Result<Text, Memory>
     ensures { IfOk result (λ text. text ≡ bytes.now) }
 {
     let text = str::from_utf8(bytes).unwrap();
-    match String::from_str(alloc, text) {
-        Ok(text) => Ok(Text::new(text)),
-        Err(_) => Err(Memory),
-    }
+    Ok(Text::new(String::from_str(alloc, text)?))
 }
 
 fn bytes_of(alloc: Global, bytes: &[u8]) -> Result<Bytes, Memory>
     ensures { IfOk result (λ copy. copy ≡ bytes.now) }
 {
-    match Vec::from_slice(alloc, bytes) {
-        Ok(copy) => Ok(Bytes::new(copy)),
-        Err(_) => Err(Memory),
-    }
+    Ok(Bytes::new(Vec::from_slice(alloc, bytes)?))
 }

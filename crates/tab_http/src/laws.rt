@@ -1,8 +1,10 @@
-ghost use Rattle.std.specs.Prelude.{◌≡◌, ℕ, ◌≤◌, ◌⊎◌, max, List, ◌++◌, length, Option, Ok};
+//! What follows from the definitions of a message alone.
+ghost use Rattle.std.specs.Prelude.{◌≡◌, ℕ, ◌-◌, ◌≤◌, ◌⊎◌, max, List, ◌++◌, length, Option, Ok};
 ghost use Rattle.tab_http.specs.Heads.{HasNoHead};
 ghost use Rattle.tab_http.specs.Messages.{Answer, Spells, IsOpen, IsParsers};
 ghost use Rattle.tab_http.specs.Reading.{TookMessage};
 ghost use Rattle.tab_http.specs.declared.messages.Message.{Message as TheMessage};
+ghost use Rattle.tab_http.specs.declared.TheConstants.{LONGEST_READ};
 
 /// No bytes spell two answers, but where they begin with no head and the parser decides between two refusals.
 pub fn bytes_spell_one_answer()
@@ -27,5 +29,5 @@ pub fn open_bytes_spell_no_message()
 /// Behind a message that was read stand no more bytes than were carried before, or than 4,095, one fewer than a read
 /// asks for.
 pub fn little_is_read_past_a_message()
-    ensures { (old new : Option (List ℕ)) (before after : List ℕ) (message : TheMessage) → TookMessage old new before after message → length after ≤ max (length before) 4095 }
+    ensures { (old new : Option (List ℕ)) (before after : List ℕ) (message : TheMessage) → TookMessage old new before after message → length after ≤ max (length before) (LONGEST_READ - 1) }
 {}

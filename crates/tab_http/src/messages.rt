@@ -1,3 +1,4 @@
+//! Requests with their header fields (RFC 9110, sections 5 and 6).
 ghost use Rattle.std.specs.Prelude.{◌≡◌};
 ghost use Rattle.std.specs.Option.{option_copied};
 ghost use Rattle.tab_http.specs.Headers.{is_named, first_value};
@@ -37,18 +38,21 @@ impl Model for Headers {
 }
 
 impl Headers {
+    /// The headers, in the memory that they have.
     pub fn new(items: Vec<Header>) -> Headers
         ensures { result ≡ items.items }
     {
         Headers { items }
     }
 
+    /// The headers, lent.
     pub fn as_slice(&self) -> &[Header]
         ensures { result.now ≡ self.now }
     {
         self.items.as_slice()
     }
 
+    /// The headers themselves. It takes no memory.
     pub fn into_vec(self) -> Vec<Header>
         ensures { result.items ≡ self }
     {

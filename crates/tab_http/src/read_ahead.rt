@@ -1,3 +1,4 @@
+//! Reading ahead until a head may have ended, in pieces, so that little comes behind it.
 ghost use Rattle.std.specs.Prelude.{◌≡◌, ◌+◌, ◌<◌, ◌≤◌, ◌⊎◌, length, vec_len, MatchBool, IfOk, IfErr, OnOk, OnErr, IsErrOf};
 ghost use Rattle.std.specs.Io.KnownBytes.{IsAtEnd};
 ghost use Rattle.tab_http.specs.HeadStates.{state_after};
@@ -5,26 +6,23 @@ ghost use Rattle.tab_http.specs.Reading.{Gathered, NeverHasHead, ReadRefused, Is
 ghost use Rattle.tab_http.specs.declared.head_states.HeadState.TheVariants.{Ended};
 ghost use Rattle.tab_outside.specs.Faults.{Rose};
 ghost use Rattle.tab_outside.specs.Transfers.{Moved};
+ghost use Rattle.tab_http.specs.declared.TheConstants.{LONGEST_HEAD};
 
-use crate::HttpRefused;
-use crate::heads::LONGEST_HEAD;
 use crate::head_states::HeadState;
+use crate::{HttpRefused, LONGEST_HEAD, LONGEST_READ};
 use tab_outside::Source;
-
-/// The most bytes that one read of a head asks for.
-const PIECE: usize = 4_096;
 
 /// Reads until a head may have ended, or as many bytes have come as it may have, or the input ends. Answers whether
 /// it has ended.
 pub fn read_to_head_end<S: Source>(source: &mut S, carry: &mut Vec<u8>) -> Result<bool, HttpRefused>
     ensures gathered { Gathered (S.left source.old) (S.left source.new) carry.old.items carry.new.items }
-    ensures reached { IfOk result (λ ended. MatchBool ended (IsAtEnd (S.left source.new)) ((state_after carry.new.items ≡ Ended) ⊎ (32768 ≤ length carry.new.items))) }
+    ensures reached { IfOk result (λ ended. MatchBool ended (IsAtEnd (S.left source.new)) ((state_after carry.new.items ≡ Ended) ⊎ (LONGEST_HEAD ≤ length carry.new.items))) }
     ensures refused { IfErr result (ReadRefused carry.new.items) }
     ensures fault { IsErrOf result HttpRefused.ReadFault → Rose (S.faults source.old) (S.faults source.new) }
     ensures later { S.faults source.old ≤ S.faults source.new }
     ensures beside { S.beside source.new ≡ S.beside source.old }
 {
-    let mut piece = [0; PIECE];
+    let mut piece = [0; LONGEST_READ];
     let mut state = HeadState::Blank;
     let mut seen = 0;
     loop {
@@ -43,13 +41,13 @@ pub fn read_to_head_end<S: Source>(source: &mut S, carry: &mut Vec<u8>) -> Resul
 pub fn read_to_limit<S: Source>(source: &mut S, carry: &mut Vec<u8>) -> Result<(), HttpRefused>
     requires { NeverHasHead carry.old.items }
     ensures gathered { Gathered (S.left source.old) (S.left source.new) carry.old.items carry.new.items }
-    ensures reached { OnOk result ((32768 ≤ length carry.new.items) ⊎ IsAtEnd (S.left source.new)) }
+    ensures reached { OnOk result ((LONGEST_HEAD ≤ length carry.new.items) ⊎ IsAtEnd (S.left source.new)) }
     ensures refused { IfErr result (ReadRefused carry.new.items) }
     ensures fault { IsErrOf result HttpRefused.ReadFault → Rose (S.faults source.old) (S.faults source.new) }
     ensures later { S.faults source.old ≤ S.faults source.new }
     ensures beside { S.beside source.new ≡ S.beside source.old }
 {
-    let mut piece = [0; PIECE];
+    let mut piece = [0; LONGEST_READ];
     while carry.len() < LONGEST_HEAD {
         if !read_more(source, &mut piece, carry)? {
             return Ok(());

@@ -1,16 +1,16 @@
+//! Messages off a connection, one behind another (RFC 9112, sections 2 and 9.3).
 ghost use Rattle.std.specs.Prelude.{◌≡◌, ℕ, ◌≤◌, List, length, Some, IfOk, IfErr, IsErrOf};
 ghost use Rattle.tab_http.specs.Heads.{HasNoHead, IsHead};
 ghost use Rattle.tab_http.specs.Messages.{RefusesHeadless, IsParsed};
 ghost use Rattle.tab_http.specs.Reading.{TookMessage, Refuses, AnswersAll, Gathered, HeadRefused};
-ghost use Rattle.tab_http.specs.declared.refusals.HttpRefused.TheVariants.{Memory as NoMemory};
 ghost use Rattle.tab_outside.specs.Faults.{Rose};
 
-use crate::HttpRefused;
 use crate::bodies::read_body;
 use crate::header_fields::body_size;
-use crate::read_ahead::{read_to_head_end, read_to_limit};
-use crate::heads::{Head, LONGEST_HEAD, is_beyond_repair};
+use crate::heads::{Head, is_beyond_repair};
 use crate::messages::Message;
+use crate::read_ahead::{read_to_head_end, read_to_limit};
+use crate::{HttpRefused, LONGEST_HEAD};
 use std::alloc::Global;
 use tab_outside::{Memory, Source};
 
@@ -92,7 +92,9 @@ fn headless_refusal(bytes: &[u8]) -> HttpRefused
 }
 
 impl From<Memory> for HttpRefused {
-    ghost from_gives = { λ _ refused. refused ≡ NoMemory };
+    ghost use Rattle.tab_http.specs.declared.refusals.HttpRefused.{HttpRefused};
+
+    ghost from_gives = { λ _ refused. refused ≡ HttpRefused.Memory };
 
     fn from(_memory: Memory) -> HttpRefused {
         HttpRefused::Memory

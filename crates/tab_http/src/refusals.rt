@@ -1,3 +1,5 @@
+//! The refusals of a message, in the order in which its bytes are looked at.
+
 /// Why no message was read.
 #[derive(Clone, Copy, Debug, PartialEq, Eq)]
 pub enum HttpRefused {

@@ -1,3 +1,4 @@
+//! The texts and the bytes of a message, as contracts see them.
 ghost use Rattle.std.specs.Prelude.{◌≡◌, string_bytes};
 
 use std::marker::Model;
@@ -17,18 +18,21 @@ impl Model for Text {
 }
 
 impl Text {
+    /// The text, in the memory that it has.
     pub fn new(text: String) -> Text
         ensures { result ≡ string_bytes text }
     {
         Text { text }
     }
 
+    /// The text, lent.
     pub fn as_str(&self) -> &str
         ensures text { result.now ≡ self.now }
     {
         self.text.as_str()
     }
 
+    /// The text itself. It takes no memory.
     pub fn into_string(self) -> String
         ensures text { string_bytes result ≡ self }
     {
@@ -51,18 +55,21 @@ impl Model for Bytes {
 }
 
 impl Bytes {
+    /// The bytes, in the memory that they have.
     pub fn new(bytes: Vec<u8>) -> Bytes
         ensures { result ≡ bytes.items }
     {
         Bytes { bytes }
     }
 
+    /// The bytes, lent.
     pub fn as_slice(&self) -> &[u8]
         ensures bytes { result.now ≡ self.now }
     {
         self.bytes.as_slice()
     }
 
+    /// The bytes themselves. It takes no memory.
     pub fn into_vec(self) -> Vec<u8>
         ensures bytes { result.items ≡ self }
     {

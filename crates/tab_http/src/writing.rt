@@ -1,3 +1,4 @@
+//! Replies written whole.
 ghost use Rattle.std.specs.Prelude.{◌≡◌, OnOk, OnErr};
 ghost use Rattle.std.specs.Io.KnownBytes.{Appends};
 ghost use Rattle.tab_outside.specs.Faults.{HasCause};

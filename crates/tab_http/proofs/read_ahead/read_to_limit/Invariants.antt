@@ -1,6 +1,7 @@
 use Rattle.std.proofs.Common.{◌≡◌, ◌-◌, ◌≤◌, vec_len}
 use Rattle.tab_http.specs.Reading.{Gathered}
 use Rattle.tab_http.proofs.read_ahead.read_to_limit.Given as goal
+use Rattle.tab_http.specs.declared.TheConstants.{LONGEST_HEAD}
 
 abbrev pub invariant-loop-piece : goal.invariant-loop-piece
 invariant-loop-piece g l = record {
@@ -10,4 +11,4 @@ invariant-loop-piece g l = record {
 }
 
 abbrev pub decreases-loop-piece : goal.decreases-loop-piece
-decreases-loop-piece g l = 32768 - vec_len l.carry
+decreases-loop-piece g l = LONGEST_HEAD - vec_len l.carry
