@@ -7,7 +7,8 @@ use Rattle.tab_filter.specs.declared.trees.Operator.{Operator}
 use Rattle.tab_filter.specs.declared.lexer.Joint.{Joint}
 use Rattle.tab_filter.specs.declared.lexer.Joint.TheVariants.{And, Or, Neither}
 use Rattle.tab_filter.specs.Trees.{Negation, Both, Either}
-use Rattle.tab_filter.specs.Lexer.{Read, TooMany, ◌>>=◌, gap_at, is_not, operator_named, joint_at}
+use Rattle.tab_keys.specs.Results.{◌>>=◌}
+use Rattle.tab_filter.specs.Lexer.{Read, TooMany, gap_at, is_not, operator_named, joint_at}
 use Rattle.tab_filter.specs.Parser.{PartView, AllView, AnyView, compared, room_at, operation_at, operand_at, negated, not_name, Inner, part_at, ambiguous_at, second_at, sole_operator, all_at, any_at, inner_at}
 use Rattle.tab_filter.specs.Grammar.{ends_token, IsLiteral, IsName, Phrase, Comparing, Group, Negated, Joined, Parted, blank, operator_text, text_of, tree_at, opens, closes, comparisons, unary, conjunction, disjunction, Fits, Nests, IsGap}
 use Rattle.tab_filter.proofs.LiteralLaws.{literal_complete, literal_no_space, literal_begins}

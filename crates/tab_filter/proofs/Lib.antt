@@ -1,7 +1,6 @@
 pub mod WindowLaws
 pub mod Splits
 pub mod LiteralSteps
-pub mod Moments
 pub mod Opens
 pub mod Chars
 pub mod LexerLaws

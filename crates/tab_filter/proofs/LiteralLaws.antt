@@ -8,11 +8,12 @@ use Rattle.uuid.specs.Text.{parsed}
 use Rattle.tab_edm.specs.declared.values.Value.{Value}
 use Rattle.tab_edm.specs.declared.values.Value.TheVariants.{Text, Flag, Moment, Guid, Bytes}
 use Rattle.tab_filter.specs.Lexer.{Read, starts, front_of, behind, is_plain, is_unquoted}
-use Rattle.tab_filter.specs.Literals.{with_front, inside_at, is_digit, fits_64, integer_of, goes_on, digits_value, starts_digit, some_digits, integer_value, plain_value, hex_pairs, moment_of, guid_of, number_behind, number_of, prefixed_value, word_at, literal_at}
+use Rattle.tab_edm.specs.Moments.{moment_of}
+use Rattle.tab_filter.specs.Literals.{with_front, inside_at, is_digit, fits_64, integer_of, goes_on, digits_value, starts_digit, some_digits, integer_value, plain_value, hex_pairs, guid_of, number_behind, number_of, prefixed_value, word_at, literal_at}
 use Rattle.tab_filter.specs.Parser.{begins_literal}
 use Rattle.tab_filter.specs.Grammar.{Literal, Quoted, Whole, Truth, Dated, Identified, Short, Long, doubled, sign, long_mark, literal_text, IsUnquoted, AreDigits, Means, IsLiteral, ends_token}
 use Rattle.tab_filter.proofs.LiteralSteps.{inside_step}
-use Rattle.tab_filter.proofs.Moments.{moment_given}
+use Rattle.tab_edm.proofs.MomentFunction.{moment_given}
 
 -- ---- fronts
 -- the text goes on with no character that passes the test

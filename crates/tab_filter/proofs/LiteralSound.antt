@@ -9,10 +9,11 @@ use Rattle.uuid.specs.Text.{parsed}
 use Rattle.tab_edm.specs.declared.values.Value.{Value}
 use Rattle.tab_edm.specs.declared.values.Value.TheVariants.{Text, Flag, Int32, Moment, Guid, Bytes}
 use Rattle.tab_filter.specs.Lexer.{Read, ParseFault, BadLiteral, starts, past_first, front_of, behind, is_plain, is_unquoted}
-use Rattle.tab_filter.specs.Literals.{with_front, inside_at, is_digit, integer_of, long_at_end, goes_on, digits_value, starts_digit, some_digits, integer_value, plain_value, hex_pairs, moment_of, guid_of, number_behind, number_of, prefixed_value, given, quoted, token_at, closed_at, quote_at, word_at, literal_at}
+use Rattle.tab_edm.specs.Moments.{moment_of}
+use Rattle.tab_filter.specs.Literals.{with_front, inside_at, is_digit, integer_of, long_at_end, goes_on, digits_value, starts_digit, some_digits, integer_value, plain_value, hex_pairs, guid_of, number_behind, number_of, prefixed_value, given, quoted, token_at, closed_at, quote_at, word_at, literal_at}
 use Rattle.tab_filter.specs.Grammar.{Quoted, Whole, Truth, Dated, Identified, Short, Long, doubled, sign, long_mark, IsUnquoted, AreDigits, IsLiteral}
 use Rattle.tab_filter.proofs.Splits.{split_behind}
-use Rattle.tab_filter.proofs.Moments.{moment_found}
+use Rattle.tab_edm.proofs.MomentFunction.{moment_found}
 use Rattle.tab_filter.proofs.LiteralLaws.{literal_complete, doubled_append}
 use Rattle.tab_filter.proofs.Sound.{Meaning, Sound, starts_is}
 

@@ -7,7 +7,8 @@ use Rattle.tab_filter.specs.declared.trees.Operator.{Operator}
 use Rattle.tab_filter.specs.declared.trees.Operator.TheVariants.{Equal, NotEqual, Greater, GreaterOrEqual, Less, LessOrEqual}
 use Rattle.tab_filter.specs.declared.lexer.Joint.{Joint}
 use Rattle.tab_filter.specs.declared.lexer.Joint.TheVariants.{And, Or, Neither}
-use Rattle.tab_filter.specs.Lexer.{Read, Syntax, BadLiteral, ◌>>=◌, starts, past_first, front_of, behind, is_space, is_plain, is_unquoted, after_spaces, expect, gap_at, edge_at, letter_at, either_letter_at, operator_at, continues, name_front, name_behind, starts_name, whole_name, behind_name, name_at, joint_at, and_at, or_at}
+use Rattle.tab_keys.specs.Results.{◌>>=◌}
+use Rattle.tab_filter.specs.Lexer.{Read, Syntax, BadLiteral, starts, past_first, front_of, behind, is_space, is_plain, is_unquoted, after_spaces, expect, gap_at, edge_at, letter_at, either_letter_at, operator_at, continues, name_front, name_behind, starts_name, whole_name, behind_name, name_at, joint_at, and_at, or_at}
 use Rattle.tab_filter.specs.Literals.{with_front, inside_at, plain_value, prefixed_value, given, quoted, token_at, closed_at, quote_at, word_at, literal_at}
 use Rattle.tab_filter.specs.Grammar.{doubled}
 use Rattle.tab_filter.proofs.Splits.{split_behind, whole_name_split, name_split}

@@ -8,7 +8,8 @@ use Rattle.tab_filter.specs.declared.trees.Operator.TheVariants.{Greater, Greate
 use Rattle.tab_filter.specs.declared.lexer.Joint.{Joint}
 use Rattle.tab_filter.specs.declared.lexer.Joint.TheVariants.{And, Or, Neither}
 use Rattle.tab_filter.specs.Trees.{Negation, Both, Either}
-use Rattle.tab_filter.specs.Lexer.{Read, Syntax, Deep, TooMany, ◌>>=◌, starts, front_of, behind, is_plain, expect, gap_at, edge_at, either_letter_at, operator_at, name_at, is_not, operator_named, joint_at}
+use Rattle.tab_keys.specs.Results.{◌>>=◌}
+use Rattle.tab_filter.specs.Lexer.{Read, Syntax, Deep, TooMany, starts, front_of, behind, is_plain, expect, gap_at, edge_at, either_letter_at, operator_at, name_at, is_not, operator_named, joint_at}
 use Rattle.tab_filter.specs.Literals.{literal_at, word_at}
 use Rattle.tab_filter.specs.Parser.{PartView, AllView, AnyView, compared, room_at, compared_at, operation_at, operand_at, begins_literal, negated, not_name, Inner, part_at, named_at, either_at, ambiguous_at, second_named_at, second_at, sole_operator, unless_sole, all_more, all_at, any_more, any_at, closed_group, inner_at}
 use Rattle.tab_filter.specs.Grammar.{blank}

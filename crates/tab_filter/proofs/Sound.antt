@@ -4,7 +4,8 @@ use Rattle.std.proofs.Common.{◌≡◌, ◌⊎◌, inl, inr, ℕ, zero, suc, �
 use Rattle.std.proofs.lemmas.Bool.{true≢false}
 use Rattle.std.proofs.lemmas.Bool.Decides.{Decides-eqb}
 use Rattle.tab_edm.specs.declared.values.Value.{Value}
-use Rattle.tab_filter.specs.Lexer.{Read, Syntax, BadLiteral, Deep, TooMany, ◌>>=◌, starts, past_first, after_spaces, behind, gap_at, edge_at}
+use Rattle.tab_keys.specs.Results.{◌>>=◌}
+use Rattle.tab_filter.specs.Lexer.{Read, Syntax, BadLiteral, Deep, TooMany, starts, past_first, after_spaces, behind, gap_at, edge_at}
 use Rattle.tab_filter.specs.Grammar.{ends_token, IsLiteral, blank}
 
 -- no literal stands here, and no parenthesis

@@ -6,7 +6,8 @@ use Rattle.tab_filter.specs.declared.trees.Operator.{Operator}
 use Rattle.tab_filter.specs.declared.trees.Operator.TheVariants.{Equal, NotEqual, Greater, GreaterOrEqual, Less, LessOrEqual}
 use Rattle.tab_filter.specs.declared.lexer.Joint.{Joint}
 use Rattle.tab_filter.specs.declared.lexer.Joint.TheVariants.{And, Or, Neither}
-use Rattle.tab_filter.specs.Lexer.{Syntax, ◌>>=◌, starts, past_first, after_spaces, expect, letter_at, either_letter_at, operator_at, continues, name_front, starts_name, whole_name, behind_name, name_at, joint_at, and_at, or_at}
+use Rattle.tab_keys.specs.Results.{◌>>=◌}
+use Rattle.tab_filter.specs.Lexer.{Syntax, starts, past_first, after_spaces, expect, letter_at, either_letter_at, operator_at, continues, name_front, starts_name, whole_name, behind_name, name_at, joint_at, and_at, or_at}
 use Rattle.tab_filter.specs.Grammar.{IsName, operator_text, blank, IsGap}
 use Rattle.tab_filter.proofs.Chars.{begins-e}
 use Rattle.tab_filter.proofs.Splits.{whole_name_split}

@@ -8,7 +8,8 @@ use Rattle.tab_edm.specs.declared.values.Value.TheVariants.{Int32}
 use Rattle.tab_filter.specs.declared.trees.Operator.{Operator}
 use Rattle.tab_filter.specs.declared.trees.Operator.TheVariants.{Equal, NotEqual, Greater, GreaterOrEqual, Less, LessOrEqual}
 use Rattle.tab_filter.specs.Trees.{Negation}
-use Rattle.tab_filter.specs.Lexer.{Read, TooMany, ◌>>=◌, starts, past_first, behind, after_spaces, gap_at, edge_at, operator_at, starts_name, whole_name, behind_name, name_at, is_not, operator_named}
+use Rattle.tab_keys.specs.Results.{◌>>=◌}
+use Rattle.tab_filter.specs.Lexer.{Read, TooMany, starts, past_first, behind, after_spaces, gap_at, edge_at, operator_at, starts_name, whole_name, behind_name, name_at, is_not, operator_named}
 use Rattle.tab_filter.specs.Literals.{literal_at}
 use Rattle.tab_filter.specs.Parser.{PartView, compared, room_at, compared_at, operation_at, operand_at, begins_literal, negated, not_name, Inner, part_at, named_at, either_at, ambiguous_at, second_named_at, second_at, sole, sole_name, sole_operator, unless_sole}
 use Rattle.tab_filter.specs.Grammar.{IsLiteral, IsName, Phrase, Comparing, Group, Negated, Joined, Parted, blank, operator_text, text_of, tree_at, opens, closes, comparisons, Level, unary, conjunction, disjunction, Fits, Nests, IsGap}

@@ -5,7 +5,8 @@ use Rattle.tab_filter.specs.declared.trees.Operator.TheVariants.{Equal}
 use Rattle.tab_filter.specs.declared.lexer.Joint.{Joint}
 use Rattle.tab_filter.specs.declared.lexer.Joint.TheVariants.{And, Or, Neither}
 use Rattle.tab_filter.specs.Trees.{Tree, Both, Either}
-use Rattle.tab_filter.specs.Lexer.{Read, ◌>>=◌, starts, after_spaces, expect, edge_at, joint_at}
+use Rattle.tab_keys.specs.Results.{◌>>=◌}
+use Rattle.tab_filter.specs.Lexer.{Read, starts, after_spaces, expect, edge_at, joint_at}
 use Rattle.tab_filter.specs.Parser.{PartView, AllView, AnyView, compared, part_at, all_more, all_at, any_more, any_at, closed_group, inner_at}
 use Rattle.tab_filter.specs.Grammar.{Phrase, Comparing, Group, Negated, Joined, Parted, blank, text_of, tree_at, opens, closes, comparisons, unary, conjunction, disjunction, Fits, IsGap}
 use Rattle.tab_filter.proofs.Phrases.{blank_append, text_append, text_begins}

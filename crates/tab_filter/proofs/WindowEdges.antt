@@ -103,7 +103,7 @@ and_false : (a b : Bool) → b ≡ false → (a && b) ≡ false
 and_false true b h = h
 and_false false b h = refl
 
-none_great : (ns : List Narrowing) (p key : List ℕ) → is_lt (text_cmp key p) ≡ false → all_meet ns key ≡ true → any_too_great ns p ≡ false
+pub none_great : (ns : List Narrowing) (p key : List ℕ) → is_lt (text_cmp key p) ≡ false → all_meet ns key ≡ true → any_too_great ns p ≡ false
 none_great [] p key h m = refl
 none_great (n ∷ ns) p key h m =
     let parts = and_parts (operator_holds n.operator (text_cmp key n.text)) (all_meet ns key) m in

@@ -7,6 +7,9 @@ use Rattle.tab_edm.specs.declared.values.Value.{Value}
 use Rattle.tab_edm.specs.declared.values.Value.TheVariants.{Text, Flag, Moment, Guid, Bytes}
 use Rattle.tab_filter.specs.declared.trees.Operator.{Operator}
 use Rattle.tab_filter.specs.declared.trees.Operator.TheVariants.{Equal, NotEqual, Greater, GreaterOrEqual, Less, LessOrEqual}
+use Rattle.tab_filter.specs.declared.lexer.TheConstants.{NAME_ROOM}
+use Rattle.tab_filter.specs.declared.parser.TheConstants.{MOST_COMPARISONS}
+use Rattle.tab_filter.specs.declared.filter_text.TheConstants.{MOST_OPEN}
 use Rattle.tab_filter.specs.Trees.{Tree, Compared, Negation, Both, Either}
 use Rattle.tab_filter.specs.Lexer.{begins, continues, is_unquoted}
 use Rattle.tab_filter.specs.Literals.{is_digit, integer_of, number_of, hex_pairs}
@@ -81,7 +84,7 @@ pub record IsLiteral (value : Value) (text : List ℕ) : Type 0 where
 -- at most 255 characters, of which the first begins a name, and the others go on with it
 abbrev pub IsName : List ℕ → Type 0
 IsName [] = ⊥
-IsName (c ∷ cs) = (begins c ≡ true) × (list_all continues cs ≡ true) × (length cs ≤ 254)
+IsName (c ∷ cs) = (begins c ≡ true) × (list_all continues cs ≡ true) × (length cs ≤ NAME_ROOM)
 
 -- an operator's letters, and then the rest
 abbrev pub operator_text : Operator → List ℕ → List ℕ
@@ -192,8 +195,8 @@ pub record Spells (tree : Tree) (text : List ℕ) : Type 0 where
 -- and the phrase is within the limits
 pub record SpellsWithin (tree : Tree) (text : List ℕ) : Type 0 where
   pub spelled : Spells tree text
-  pub nests : Nests spelled.phrase 64
-  pub few : comparisons spelled.phrase ≤ 15
+  pub nests : Nests spelled.phrase MOST_OPEN
+  pub few : comparisons spelled.phrase ≤ MOST_COMPARISONS
 
 -- ---- where a text goes wrong
 

@@ -2,10 +2,12 @@
 -- or why it stopped. Texts are lists of characters here.
 use Rattle.std.specs.Prelude.{◌≡◌, ℕ, zero, suc, List, [], ◌∷◌, Bool, false, not, ◌&&◌, ◌||◌, ◌==◌, Option, Some, None, Result, Ok, Err, if◌then◌else◌, codes, bytes_eq}
 use Rattle.unicode_ident.specs.Ident.{is_xid_start, is_xid_continue}
+use Rattle.tab_keys.specs.Results.{◌>>=◌}
 use Rattle.tab_filter.specs.declared.trees.Operator.{Operator}
 use Rattle.tab_filter.specs.declared.trees.Operator.TheVariants.{Equal, NotEqual, Greater, GreaterOrEqual, Less, LessOrEqual}
 use Rattle.tab_filter.specs.declared.lexer.Joint.{Joint}
 use Rattle.tab_filter.specs.declared.lexer.Joint.TheVariants.{And, Or, Neither}
+use Rattle.tab_filter.specs.declared.lexer.TheConstants.{NAME_ROOM}
 use Rattle.tab_filter.specs.declared.parse_stop.ParseStop.{ParseStop}
 use Rattle.tab_filter.specs.declared.parse_stop.ParseStop.TheVariants as stops
 
@@ -21,12 +23,7 @@ pub data ParseFault : Type 0 where
 abbrev pub Read : Type 0 → Type 0
 Read A = Result (A × List ℕ) ParseFault
 
-infixl 10 ◌>>=◌
-abbrev pub ◌>>=◌ : {A B : Type 0} → Result A ParseFault → (A → Result B ParseFault) → Result B ParseFault
-(Ok x) >>= f = f x
-(Err e) >>= f = Err e
-
--- What a function returned, seen by view, is what reading gives, unless memory ran out.
+-- A reader stopped for this fault, or memory ran out.
 abbrev pub Fails : {Y : Type 0} → ParseStop → Result Y ParseFault → Type 0
 Fails stops.Memory read = Unit {0}
 Fails (stops.Syntax left) read = read ≡ Err (Syntax left.now)
@@ -34,9 +31,10 @@ Fails (stops.BadLiteral left) read = read ≡ Err (BadLiteral left.now)
 Fails (stops.Deep left) read = read ≡ Err (Deep left.now)
 Fails stops.TooMany read = read ≡ Err TooMany
 
-abbrev pub Gives : {X Y : Type 0} → (X → Y) → Result X ParseStop → Result Y ParseFault → Type 0
-Gives view (Ok x) read = read ≡ Ok (view x)
-Gives view (Err e) read = Fails e read
+-- What a reader returned, seen by view, is what reading gives, unless memory ran out.
+abbrev pub Parses : {X Y : Type 0} → (X → Y) → Result X ParseStop → Result Y ParseFault → Type 0
+Parses view (Ok x) read = read ≡ Ok (view x)
+Parses view (Err e) read = Fails e read
 
 -- the text begins with this character
 abbrev pub starts : ℕ → List ℕ → Bool
@@ -123,10 +121,10 @@ starts_name (b ∷ bs) = begins b
 -- that name, and what is behind it
 unfoldable pub whole_name : List ℕ → List ℕ
 whole_name [] = []
-whole_name (b ∷ bs) = b ∷ name_front 254 bs
+whole_name (b ∷ bs) = b ∷ name_front NAME_ROOM bs
 
 abbrev pub behind_name : List ℕ → List ℕ
-behind_name text = name_behind 254 (past_first text)
+behind_name text = name_behind NAME_ROOM (past_first text)
 
 -- a name of at most 255 characters
 unfoldable pub name_at : List ℕ → Read (List ℕ)

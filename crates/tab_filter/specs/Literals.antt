@@ -1,10 +1,9 @@
 -- How literals are read.
 use Rattle.std.specs.Prelude.{ℕ, ◌+◌, ◌-◌, ◌*◌, ◌^◌, List, [], ◌∷◌, ◌++◌, length, take, drop, Bool, true, false, not, ◌&&◌, ◌||◌, ◌==◌, Option, Some, None, Ok, Err, if◌then◌else◌, nat_le, nat_lt, codes, bytes_eq, option_map, ℤ, pos, neg_ℤ, encode_utf8, encode_utf8_all}
-use Rattle.jiff_core.specs.Calendar.{days_in_month}
 use Rattle.uuid.specs.Text.{parsed, is_hex_digit, value_of}
 use Rattle.tab_edm.specs.declared.values.Value.{Value}
 use Rattle.tab_edm.specs.declared.values.Value.TheVariants.{Text, Flag, Int32, Int64, Moment, Guid, Bytes}
-use Rattle.tab_edm.specs.Moments.{CivilDate, days_before, text_of_date, text_of_time, text_of_fraction}
+use Rattle.tab_edm.specs.Moments.{moment_of}
 use Rattle.tab_filter.specs.Lexer.{Read, Syntax, BadLiteral, starts, past_first, front_of, behind, is_plain, is_unquoted}
 
 -- ---- what stands between quotes: the bytes of the text that ends at the first quote that is not doubled, and the
@@ -83,7 +82,6 @@ hex_pairs [] = Some []
 hex_pairs (a ∷ []) = None
 hex_pairs (a ∷ b ∷ cs) = with_byte (hex_byte a b) (hex_pairs cs)
 
--- ---- moments
 abbrev pub number_behind : ℕ → List ℕ → ℕ
 number_behind n [] = n
 number_behind n (c ∷ cs) = number_behind (n * 10 + (c - 48)) cs
@@ -91,49 +89,6 @@ number_behind n (c ∷ cs) = number_behind (n * 10 + (c - 48)) cs
 -- the number with these digits
 unfoldable pub number_of : List ℕ → ℕ
 number_of digits = number_behind 0 digits
-
--- the digits that stand at a place of a text, so many, as a number
-abbrev pub number_from : List ℕ → ℕ → ℕ → ℕ
-number_from text at count = number_of (take count (drop at text))
-
--- the parts of a moment's text, where they stand in one
-pub record Parts : Type 0 where
-  pub date : CivilDate
-  pub hour : ℕ
-  pub minute : ℕ
-  pub second : ℕ
-  pub count : ℕ
-  pub fraction : ℕ
-
-abbrev pub parts_of : List ℕ → Parts
-parts_of text = record {
-  date = record { year = number_from text 0 4; month = number_from text 5 2; day = number_from text 8 2 };
-  hour = number_from text 11 2;
-  minute = number_from text 14 2;
-  second = number_from text 17 2;
-  count = length text - 21;
-  fraction = number_from text 20 (length text - 21);
-}
-
-abbrev pub are_served : Parts → Bool
-are_served p =
-    nat_le 1601 p.date.year && (nat_le p.date.year 9999 && (nat_le 1 p.date.month && (nat_le p.date.month 12 && (nat_le 1 p.date.day && (nat_le p.date.day (days_in_month (pos p.date.year) p.date.month) && (nat_le p.hour 23 && (nat_le p.minute 59 && (nat_le p.second 59 && (nat_le p.count 7 && nat_lt p.fraction (10 ^ p.count))))))))))
-
-abbrev pub text_of_parts : Parts → List ℕ
-text_of_parts p =
-    text_of_date p.date ++ codes "T" ++ text_of_time (codes ":") p.hour p.minute p.second ++ text_of_fraction p.count p.fraction
-
-abbrev pub tick_of : Parts → ℕ
-tick_of p =
-    (((days_before p.date * 24 + p.hour) * 60 + p.minute) * 60 + p.second) * 10_000_000 + p.fraction * 10 ^ (7 - p.count)
-
-abbrev pub tick_if : Bool → ℕ → Option ℕ
-tick_if b tick = if b then Some tick else None
-
--- the moment that a text gives
-unfoldable pub moment_of : List ℕ → Option ℕ
-moment_of text =
-    tick_if (are_served (parts_of text) && bytes_eq text (text_of_parts (parts_of text))) (tick_of (parts_of text))
 
 -- ---- a word, and what stands between the quotes behind it
 unfoldable pub guid_of : List ℕ → Option Value

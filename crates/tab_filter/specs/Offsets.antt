@@ -2,11 +2,10 @@
 use Rattle.std.specs.Prelude.{◌≡◌, ◌⊎◌, ℕ, ◌-◌, List, ◌++◌, length, Result, Ok, Err, encode_utf8_all}
 use Rattle.tab_filter.specs.declared.filter_text.FilterRefused.{FilterRefused}
 use Rattle.tab_filter.specs.declared.filter_text.FilterRefused.TheVariants as refusals
-use Rattle.tab_filter.specs.declared.trees.Node.{Node}
 use Rattle.tab_filter.specs.declared.parse_stop.ParseStop.{ParseStop}
 use Rattle.tab_filter.specs.declared.parse_stop.ParseStop.TheVariants as stops
-use Rattle.tab_filter.specs.Trees.{Tree, tree_of}
-use Rattle.tab_filter.specs.Lexer.{ParseFault, Syntax, BadLiteral, Deep, TooMany, Fails}
+use Rattle.tab_filter.specs.Trees.{Tree}
+use Rattle.tab_filter.specs.Lexer.{ParseFault, Syntax, BadLiteral, Deep, TooMany}
 use Rattle.tab_filter.specs.Parser.{filter_at}
 use Rattle.tab_filter.specs.Grammar.{SpellsWithin, IsFront, NoFurther, IsDue, NoLiteral}
 
@@ -35,11 +34,7 @@ abbrev pub Answers : List ℕ → Result Tree FilterRefused → Result Tree Pars
 Answers text (Ok tree) read = read ≡ Ok tree
 Answers text (Err refused) read = Refuses text refused read
 
--- What the reading of characters returned, and the refusal that is made of it.
-abbrev pub GivesTree : Result Node ParseStop → Result Tree ParseFault → Type 0
-GivesTree (Ok node) read = read ≡ Ok (tree_of node)
-GivesTree (Err stop) read = Fails stop read
-
+-- The refusal that is made of where the reading of characters stopped.
 abbrev pub StopsAt : List ℕ → ParseStop → FilterRefused → Type 0
 StopsAt text stops.Memory refused = refused ≡ refusals.Memory
 StopsAt text (stops.Syntax left) refused = refused ≡ refusal_of text (Syntax left.now)

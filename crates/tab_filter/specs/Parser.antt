@@ -1,6 +1,8 @@
 -- How the parts of a filter are read, and what joins them.
 use Rattle.std.specs.Prelude.{ℕ, zero, suc, List, [], ◌∷◌, Bool, true, false, not, ◌&&◌, ◌||◌, ◌==◌, Option, Some, None, Result, Ok, Err, if◌then◌else◌, nat_le, codes, encode_utf8_all}
 use Rattle.tab_edm.specs.declared.values.Value.{Value}
+use Rattle.tab_filter.specs.declared.filter_text.TheConstants.{MOST_OPEN}
+use Rattle.tab_filter.specs.declared.parser.TheConstants.{MOST_COMPARISONS, MOST_PARTS}
 use Rattle.tab_filter.specs.declared.trees.Operator.{Operator}
 use Rattle.tab_filter.specs.declared.lexer.Joint.{Joint}
 use Rattle.tab_filter.specs.declared.lexer.Joint.TheVariants.{And, Or, Neither}
@@ -8,19 +10,9 @@ use Rattle.tab_filter.specs.declared.parser.PartRead.{PartRead}
 use Rattle.tab_filter.specs.declared.parser.AllRead.{AllRead}
 use Rattle.tab_filter.specs.declared.parser.AnyRead.{AnyRead}
 use Rattle.tab_filter.specs.Trees.{Tree, Compared, Negation, Both, Either, tree_of}
-use Rattle.tab_filter.specs.Lexer.{Read, ParseFault, Syntax, Deep, TooMany, ◌>>=◌, starts, past_first, after_spaces, expect, gap_at, edge_at, operator_at, starts_name, whole_name, behind_name, name_at, is_not, operator_named, joint_at}
+use Rattle.tab_keys.specs.Results.{◌>>=◌}
+use Rattle.tab_filter.specs.Lexer.{Read, ParseFault, Syntax, Deep, TooMany, starts, past_first, after_spaces, expect, gap_at, edge_at, operator_at, starts_name, whole_name, behind_name, name_at, is_not, operator_named, joint_at}
 use Rattle.tab_filter.specs.Literals.{literal_at}
-
--- at most so many comparisons, so many `(` and `not` open at a time, and so many parts on a level, where each part has a
--- comparison
-abbrev pub most_comparisons : ℕ
-most_comparisons = 15
-
-abbrev pub most_open : ℕ
-most_open = 64
-
-abbrev pub most_parts : ℕ
-most_parts = 16
 
 -- a part, whether it ends with a `)`, and the comparisons read up to its end
 pub record PartView : Type 0 where
@@ -166,7 +158,7 @@ whole_at (Ok x) = whole_of x.0 x.1
 
 unfoldable pub filter_at : List ℕ → Result Tree ParseFault
 filter_at text =
-    whole_at (any_at (part_at most_comparisons (inner_at most_comparisons most_parts most_open)) most_parts most_parts 0 (after_spaces text))
+    whole_at (any_at (part_at MOST_COMPARISONS (inner_at MOST_COMPARISONS MOST_PARTS MOST_OPEN)) MOST_PARTS MOST_PARTS 0 (after_spaces text))
 
 -- what was read, without where it lies in memory
 abbrev pub part_view : PartRead → PartView

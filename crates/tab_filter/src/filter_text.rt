@@ -1,9 +1,13 @@
+//! Filters from their texts, and what is said of a text that is none: the values of the query option `$filter`
+//! (OData 3.0, part "URL conventions", in the part of it that Microsoft's Table service REST reference, "Querying
+//! tables and entities", serves).
+
 ghost use Rattle.std.specs.Prelude.{◌≡◌, ◌≤◌, ◌<◌, ◌*◌, ◌^◌, ◌++◌, ℕ, List, length, IfOk, IfErr, IsUtf8, chars, encode_utf8_all};
 ghost use Rattle.tab_filter.specs.Trees.{Tree, tree_of};
-ghost use Rattle.tab_filter.specs.Lexer.{Gives, after_spaces};
-ghost use Rattle.tab_filter.specs.Parser.{any_at, part_at, inner_at, any_view, most_parts, most_open, filter_at};
+ghost use Rattle.tab_filter.specs.Lexer.{Parses, after_spaces};
+ghost use Rattle.tab_filter.specs.Parser.{any_at, part_at, inner_at, any_view, filter_at};
 ghost use Rattle.tab_filter.specs.Grammar.{SpellsWithin};
-ghost use Rattle.tab_filter.specs.Offsets.{Answers, GivesTree, StopsAt, offset_of, IsRefused, IsTree};
+ghost use Rattle.tab_filter.specs.Offsets.{Answers, StopsAt, offset_of, IsRefused, IsTree};
 
 use crate::Filter;
 use crate::lexer::after_spaces;
@@ -63,12 +67,11 @@ fn characters(alloc: Global, text: &str) -> Result<Vec<char>, AllocError>
 
 #[tactic(auto, unfolding(crate::specs::Parser::filter_at))]
 fn read(alloc: Global, text: &[char]) -> Result<Node, ParseStop<'_>>
-    ensures { GivesTree result (filter_at text.now) }
+    ensures { Parses tree_of result (filter_at text.now) }
 {
-    match any(alloc, 0, after_spaces(text), MOST_OPEN, MOST_PARTS) {
-        Ok((any, [])) => Ok(any.node),
-        Ok((_, rest)) => Err(ParseStop::Syntax(rest)),
-        Err(stop) => Err(stop),
+    match any(alloc, 0, after_spaces(text), MOST_OPEN, MOST_PARTS)? {
+        (any, []) => Ok(any.node),
+        (_, rest) => Err(ParseStop::Syntax(rest)),
     }
 }
 
@@ -87,8 +90,8 @@ fn refused(text: &str, stop: ParseStop<'_>) -> FilterRefused
     }
 }
 
-#[tactic(auto, using(crate::proofs::LiteralSteps::offset_more))]
 /// The byte offset of a text at which the characters that are left begin.
+#[tactic(auto, using(crate::proofs::LiteralSteps::offset_more))]
 fn offset(text: &str, rest: &[char]) -> usize
     ensures { result ≡ offset_of text.now rest.now }
 {

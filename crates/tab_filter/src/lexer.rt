@@ -1,5 +1,7 @@
+//! The words of a filter's text, read from its front: names by Unicode Standard Annex 31, operators and joints.
+
 ghost use Rattle.std.specs.Prelude.{◌≡◌, ◌≤◌, ℕ, List, [], ◌∷◌, ◌++◌, length, MatchOption, bytes_eq, IfOk, string_bytes, encode_utf8_all, Ok, Err};
-ghost use Rattle.tab_filter.specs.Lexer.{Gives, ParseFault, Read, starts, past_first, after_spaces, expect, gap_at, edge_at, letter_at, either_letter_at, operator_at, begins, continues, name_front, name_behind, starts_name, whole_name, behind_name, name_at, is_not, operator_named, operator_of, joint_at, front_of, behind, is_plain, is_unquoted};
+ghost use Rattle.tab_filter.specs.Lexer.{Parses, ParseFault, Read, starts, past_first, after_spaces, expect, gap_at, edge_at, letter_at, either_letter_at, operator_at, begins, continues, name_front, name_behind, starts_name, whole_name, behind_name, name_at, is_not, operator_named, operator_of, joint_at, front_of, behind, is_plain, is_unquoted};
 
 use crate::Operator;
 use crate::parse_stop::ParseStop;
@@ -17,6 +19,7 @@ pub enum Joint {
     Neither,
 }
 
+/// Whether the text begins with this character.
 pub fn starts(c: char, text: &[char]) -> bool
     ensures { result ≡ starts c text.now }
 {
@@ -26,6 +29,7 @@ pub fn starts(c: char, text: &[char]) -> bool
     }
 }
 
+/// What is behind the first character, and nothing where there is none.
 pub fn past_first(text: &[char]) -> &[char]
     ensures { result.now ≡ past_first text.now }
 {
@@ -35,6 +39,7 @@ pub fn past_first(text: &[char]) -> &[char]
     }
 }
 
+/// What is behind the spaces at the front.
 #[tactic(auto, unfolding(crate::specs::Lexer::behind))]
 pub fn after_spaces(mut text: &[char]) -> &[char]
     ensures { result.now ≡ after_spaces text.now }
@@ -48,8 +53,9 @@ pub fn after_spaces(mut text: &[char]) -> &[char]
     text
 }
 
+/// What is behind this character, which is due.
 pub fn expect(c: char, text: &[char]) -> Result<&[char], ParseStop<'_>>
-    ensures { Gives (λ rest. (tt, rest.now)) result (expect c text.now) }
+    ensures { Parses (λ rest. (tt, rest.now)) result (expect c text.now) }
 {
     if starts(c, text) {
         Ok(past_first(text))
@@ -60,7 +66,7 @@ pub fn expect(c: char, text: &[char]) -> Result<&[char], ParseStop<'_>>
 
 /// One or more spaces.
 pub fn gap(text: &[char]) -> Result<&[char], ParseStop<'_>>
-    ensures { Gives (λ rest. (tt, rest.now)) result (gap_at text.now) }
+    ensures { Parses (λ rest. (tt, rest.now)) result (gap_at text.now) }
 {
     if starts(' ', text) {
         Ok(after_spaces(text))
@@ -71,7 +77,7 @@ pub fn gap(text: &[char]) -> Result<&[char], ParseStop<'_>>
 
 /// Any spaces before a `(`, and otherwise one or more.
 pub fn edge(text: &[char]) -> Result<&[char], ParseStop<'_>>
-    ensures { Gives (λ rest. (tt, rest.now)) result (edge_at text.now) }
+    ensures { Parses (λ rest. (tt, rest.now)) result (edge_at text.now) }
 {
     let rest = after_spaces(text);
     if starts('(', rest) {
@@ -81,9 +87,10 @@ pub fn edge(text: &[char]) -> Result<&[char], ParseStop<'_>>
     }
 }
 
+/// The operator at the front, and what is behind it.
 #[tactic(auto, unfolding(crate::specs::Lexer::operator_at))]
 pub fn operator(text: &[char]) -> Result<(Operator, &[char]), ParseStop<'_>>
-    ensures { Gives (λ x. (x.0, x.1.now)) result (operator_at text.now) }
+    ensures { Parses (λ x. (x.0, x.1.now)) result (operator_at text.now) }
 {
     let rest = past_first(text);
     if starts('e', text) {
@@ -100,7 +107,7 @@ pub fn operator(text: &[char]) -> Result<(Operator, &[char]), ParseStop<'_>>
 }
 
 fn letter(c: char, operator: Operator, text: &[char]) -> Result<(Operator, &[char]), ParseStop<'_>>
-    ensures { Gives (λ x. (x.0, x.1.now)) result (letter_at c operator text.now) }
+    ensures { Parses (λ x. (x.0, x.1.now)) result (letter_at c operator text.now) }
 {
     if starts(c, text) {
         Ok((operator, past_first(text)))
@@ -115,7 +122,7 @@ fn either_letter(
     operator: Operator,
     text: &[char],
 ) -> Result<(Operator, &[char]), ParseStop<'_>>
-    ensures { Gives (λ x. (x.0, x.1.now)) result (either_letter_at first c operator text.now) }
+    ensures { Parses (λ x. (x.0, x.1.now)) result (either_letter_at first c operator text.now) }
 {
     if starts('e', text) {
         Ok((first, past_first(text)))
@@ -169,7 +176,7 @@ fn taken<'a>(text: &'a [char], rest: &[char]) -> &'a [char]
 /// A name of at most 255 characters.
 #[tactic(auto, unfolding(crate::specs::Lexer::name_at))]
 pub fn name(text: &[char]) -> Result<(&[char], &[char]), ParseStop<'_>>
-    ensures { Gives (λ x. (x.0.now, x.1.now)) result (name_at text.now) }
+    ensures { Parses (λ x. (x.0.now, x.1.now)) result (name_at text.now) }
 {
     if starts_name(text) {
         Ok(split_name(text))
@@ -187,6 +194,7 @@ pub fn split_name(text: &[char]) -> (&[char], &[char])
     (taken(text, rest), rest)
 }
 
+/// Whether the text begins with a character that may begin a name.
 pub fn starts_name(text: &[char]) -> bool
     ensures { result ≡ starts_name text.now }
 {
@@ -196,6 +204,7 @@ pub fn starts_name(text: &[char]) -> bool
     }
 }
 
+/// Whether the name is the word `not`.
 #[tactic(auto, unfolding(crate::specs::Lexer::is_not))]
 pub fn is_not(name: &[char]) -> bool
     ensures { result ≡ is_not name.now }
@@ -231,7 +240,7 @@ fn operator_of(first: char, second: char) -> Option<Operator>
 /// The word that joins a part to the next, and what is behind it. It stands behind a space or a `)`.
 #[tactic(auto, unfolding(crate::specs::Lexer::joint_at))]
 pub fn read_joint(closed: bool, text: &[char]) -> Result<(Joint, &[char]), ParseStop<'_>>
-    ensures { Gives (λ x. (x.0, x.1.now)) result (joint_at closed text.now) }
+    ensures { Parses (λ x. (x.0, x.1.now)) result (joint_at closed text.now) }
 {
     let rest = after_spaces(text);
     if !(closed || starts(' ', text)) {
@@ -246,8 +255,8 @@ pub fn read_joint(closed: bool, text: &[char]) -> Result<(Joint, &[char]), Parse
     }
 }
 
-#[tactic(auto, unfolding(crate::specs::Lexer::behind))]
 /// What is behind the longest front of characters that are no space, parenthesis or quote.
+#[tactic(auto, unfolding(crate::specs::Lexer::behind))]
 fn behind_word(mut text: &[char]) -> &[char]
     ensures { result.now ≡ behind is_plain text.now }
 {
@@ -260,8 +269,8 @@ fn behind_word(mut text: &[char]) -> &[char]
     text
 }
 
-#[tactic(auto, unfolding(crate::specs::Lexer::behind))]
 /// What is behind the longest front without a quote.
+#[tactic(auto, unfolding(crate::specs::Lexer::behind))]
 fn behind_unquoted(mut text: &[char]) -> &[char]
     ensures { result.now ≡ behind is_unquoted text.now }
 {
@@ -298,6 +307,7 @@ pub fn split_unquoted(text: &[char]) -> (&[char], &[char])
     (taken(text, rest), rest)
 }
 
+/// The first character and those behind it, as a pair that a loop can take apart.
 pub fn first_and_rest(text: &[char]) -> Option<(char, &[char])>
     ensures { MatchOption result (text.now ≡ []) (λ x. text.now ≡ x.0 ∷ x.1.now) }
 {
@@ -307,12 +317,14 @@ pub fn first_and_rest(text: &[char]) -> Option<(char, &[char])>
     }
 }
 
+/// Whether the characters are those of this word.
 pub fn is_word(word: &[char], other: &[char]) -> bool
     ensures { result ≡ bytes_eq word.now other.now }
 {
     word == other
 }
 
+/// The characters as a text of their own.
 #[tactic(auto, using(crate::proofs::LiteralSteps::text_more))]
 pub fn text_of(alloc: Global, chars: &[char]) -> Result<String, AllocError>
     ensures { IfOk result (λ text. string_bytes text ≡ encode_utf8_all chars.now) }

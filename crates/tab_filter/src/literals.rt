@@ -1,8 +1,12 @@
+//! The literals of filters: the primitive literals of OData 3.0, part "URL conventions", for the seven types that
+//! are served.
+
 ghost use Rattle.std.specs.Prelude.{◌≡◌, ◌≤◌, ◌^◌, ◌+◌, ◌-◌, ◌*◌, true, false, vec_items, Option, Some, None, IfOk, OnOk, MatchOption, option_map, string_bytes, encode_utf8_all, OnSome, IfSome, IfNone};
 ghost use Rattle.tab_edm.specs.declared.values.Value.TheVariants.{Bytes};
+ghost use Rattle.tab_edm.specs.Moments.{moment_of};
 ghost use Rattle.uuid.specs.Text.{is_hex_digit, value_of};
-ghost use Rattle.tab_filter.specs.Lexer.{Gives, front_of, behind, is_plain, is_unquoted};
-ghost use Rattle.tab_filter.specs.Literals.{with_front, inside_at, is_digit, fits_64, fits_32, signed, integer_of, long_at_end, goes_on, digits_value, starts_digit, some_digits, integer_value, plain_value, hex_byte, hex_pairs, moment_of, guid_of, prefixed_value, given, quoted, token_at, closed_at, quote_at, word_at, literal_at};
+ghost use Rattle.tab_filter.specs.Lexer.{Parses, front_of, behind, is_plain, is_unquoted};
+ghost use Rattle.tab_filter.specs.Literals.{with_front, inside_at, is_digit, fits_64, fits_32, signed, integer_of, long_at_end, goes_on, digits_value, starts_digit, some_digits, integer_value, plain_value, hex_byte, hex_pairs, guid_of, prefixed_value, given, quoted, token_at, closed_at, quote_at, word_at, literal_at};
 
 use crate::lexer::{
     first_and_rest, is_word, past_first, split_unquoted, split_word, starts, text_of,
@@ -18,7 +22,7 @@ const MOST: u64 = 9_223_372_036_854_775_808;
 /// A literal, and what is behind it.
 #[tactic(auto, unfolding(crate::specs::Literals::literal_at))]
 pub fn literal(alloc: Global, text: &[char]) -> Result<(Value, &[char]), ParseStop<'_>>
-    ensures { Gives (λ x. (x.0, x.1.now)) result (literal_at text.now) }
+    ensures { Parses (λ x. (x.0, x.1.now)) result (literal_at text.now) }
 {
     let (word, rest) = split_word(text);
     if starts('\'', rest) {
@@ -34,7 +38,7 @@ fn token<'a>(
     word: &[char],
     rest: &'a [char],
 ) -> Result<(Value, &'a [char]), ParseStop<'a>>
-    ensures { Gives (λ x. (x.0, x.1.now)) result (token_at text.now word.now rest.now) }
+    ensures { Parses (λ x. (x.0, x.1.now)) result (token_at text.now word.now rest.now) }
 {
     if word.is_empty() {
         return Err(ParseStop::Syntax(rest));
@@ -52,13 +56,12 @@ fn quote<'a>(
     word: &[char],
     rest: &'a [char],
 ) -> Result<(Value, &'a [char]), ParseStop<'a>>
-    ensures { Gives (λ x. (x.0, x.1.now)) result (quote_at text.now word.now rest.now) }
+    ensures { Parses (λ x. (x.0, x.1.now)) result (quote_at text.now word.now rest.now) }
 {
     if word.is_empty() {
-        return match inside(alloc, rest) {
-            Ok(Some((inside, rest))) => Ok((Value::Text(TextValue::new(inside)), rest)),
-            Ok(None) => Err(ParseStop::BadLiteral(text)),
-            Err(_) => Err(ParseStop::Memory),
+        return match inside(alloc, rest)? {
+            Some((inside, rest)) => Ok((Value::Text(TextValue::new(inside)), rest)),
+            None => Err(ParseStop::BadLiteral(text)),
         };
     }
     let (inside, rest) = split_unquoted(rest);
@@ -73,20 +76,19 @@ fn closed<'a>(
     inside: &[char],
     rest: &'a [char],
 ) -> Result<(Value, &'a [char]), ParseStop<'a>>
-    ensures { Gives (λ x. (x.0, x.1.now)) result (closed_at text.now word.now inside.now rest.now) }
+    ensures { Parses (λ x. (x.0, x.1.now)) result (closed_at text.now word.now inside.now rest.now) }
 {
     if !starts('\'', rest) {
         return Err(ParseStop::BadLiteral(text));
     }
-    match prefixed_value(alloc, word, inside) {
-        Ok(Some(value)) => Ok((value, past_first(rest))),
-        Ok(None) => Err(ParseStop::BadLiteral(text)),
-        Err(_) => Err(ParseStop::Memory),
+    match prefixed_value(alloc, word, inside)? {
+        Some(value) => Ok((value, past_first(rest))),
+        None => Err(ParseStop::BadLiteral(text)),
     }
 }
 
-#[tactic(auto, using(crate::proofs::LiteralSteps::inside_char, crate::proofs::LiteralSteps::inside_quote, crate::proofs::LiteralSteps::inside_end, crate::proofs::LiteralSteps::inside_none))]
 /// The text up to the first quote that is not doubled, and what is behind that quote.
+#[tactic(auto, using(crate::proofs::LiteralSteps::inside_char, crate::proofs::LiteralSteps::inside_quote, crate::proofs::LiteralSteps::inside_end, crate::proofs::LiteralSteps::inside_none))]
 fn inside(alloc: Global, mut text: &[char]) -> Result<Option<(String, &[char])>, AllocError>
     ensures { IfOk result (λ found. option_map (λ x. (string_bytes x.0, x.1.now)) found ≡ inside_at text.now) }
 {
@@ -217,7 +219,7 @@ fn prefixed_value(
 {
     if is_word(word, &['d', 'a', 't', 'e', 't', 'i', 'm', 'e']) {
         let inside = text_of(alloc, inside)?;
-        Ok(moment(inside.as_str()).map(Value::Moment))
+        Ok(read_moment(inside.as_str()).map(Value::Moment))
     } else if is_word(word, &['g', 'u', 'i', 'd']) {
         let inside = text_of(alloc, inside)?;
         Ok(guid(inside.as_str()))
@@ -226,12 +228,6 @@ fn prefixed_value(
     } else {
         Ok(None)
     }
-}
-
-fn moment(text: &str) -> Option<u64>
-    ensures { result ≡ moment_of text.now }
-{
-    read_moment(text)
 }
 
 #[tactic(auto, unfolding(crate::specs::Literals::guid_of))]

@@ -1,7 +1,11 @@
+//! The parser of filters, by descent: `not` binds closer than `and`, and `and` closer than `or`. Each reader gives
+//! what it read with the characters that are left.
+
 ghost use Rattle.std.specs.Prelude.{◌≡◌, ◌<◌, ◌≤◌, ℕ, true, false, List, IfOk, OnOk, option_map, Ok, Err};
+ghost use Rattle.tab_filter.specs.declared.parser.TheConstants.{MOST_COMPARISONS, MOST_PARTS};
 ghost use Rattle.tab_filter.specs.Trees.{tree_of, Both, Either};
-ghost use Rattle.tab_filter.specs.Lexer.{Gives, Read, operator_named};
-ghost use Rattle.tab_filter.specs.Parser.{PartView, AllView, AnyView, compared, room_at, compared_at, operation_at, operand_at, begins_literal, negated, not_name, part_at, named_at, either_at, ambiguous_at, second_named_at, second_at, sole, sole_name, sole_operator, unless_sole, all_more, all_at, any_more, any_at, closed_group, inner_at, part_view, all_view, any_view, most_parts, most_comparisons};
+ghost use Rattle.tab_filter.specs.Lexer.{Parses, Read, operator_named};
+ghost use Rattle.tab_filter.specs.Parser.{PartView, AllView, AnyView, compared, room_at, compared_at, operation_at, operand_at, begins_literal, negated, not_name, part_at, named_at, either_at, ambiguous_at, second_named_at, second_at, sole, sole_name, sole_operator, unless_sole, all_more, all_at, any_more, any_at, closed_group, inner_at, part_view, all_view, any_view};
 
 use crate::lexer::{
     Joint, after_spaces, edge, expect, gap, is_not, name, operator, operator_named, past_first,
@@ -48,8 +52,8 @@ pub struct AnyRead {
 
 /// Stops where there is no room for one comparison more.
 fn room(used: usize, text: &[char]) -> Result<&[char], ParseStop<'_>>
-    ensures reads { Gives (λ rest. (tt, rest.now)) result (room_at most_comparisons used text.now) }
-    ensures below { OnOk result (used < 15) }
+    ensures reads { Parses (λ rest. (tt, rest.now)) result (room_at MOST_COMPARISONS used text.now) }
+    ensures below { OnOk result (used < MOST_COMPARISONS) }
 {
     if used >= MOST_COMPARISONS {
         Err(ParseStop::TooMany)
@@ -66,28 +70,25 @@ fn compared<'a>(
     operator: Operator,
     text: &'a [char],
 ) -> Result<(PartRead, &'a [char]), ParseStop<'a>>
-    requires { used < 15 }
-    ensures reads { Gives (λ x. (part_view x.0, x.1.now)) result (compared_at used name.now operator text.now) }
-    ensures few { IfOk result (λ x. x.0.used ≤ 15) }
+    requires { used < MOST_COMPARISONS }
+    ensures reads { Parses (λ x. (part_view x.0, x.1.now)) result (compared_at used name.now operator text.now) }
+    ensures few { IfOk result (λ x. x.0.used ≤ MOST_COMPARISONS) }
 {
-    match literal(alloc, text) {
-        Ok((value, rest)) => match text_of(alloc, name) {
-            Ok(name) => Ok((
-                PartRead {
-                    node: Node::Compare(Comparison {
-                        name: TextValue::new(name),
-                        operator,
-                        value,
-                    }),
-                    closed: false,
-                    used: used + 1,
-                },
-                rest,
-            )),
-            Err(_) => Err(ParseStop::Memory),
+    let (value, rest) = literal(alloc, text)?;
+    let name = TextValue::new(text_of(alloc, name)?);
+    let node = Node::Compare(Comparison {
+        name,
+        operator,
+        value,
+    });
+    Ok((
+        PartRead {
+            node,
+            closed: false,
+            used: used + 1,
         },
-        Err(stop) => Err(stop),
-    }
+        rest,
+    ))
 }
 
 /// An operator and a literal.
@@ -98,8 +99,8 @@ fn operation<'a>(
     name: &[char],
     text: &'a [char],
 ) -> Result<(PartRead, &'a [char]), ParseStop<'a>>
-    ensures reads { Gives (λ x. (part_view x.0, x.1.now)) result (operation_at most_comparisons used name.now text.now) }
-    ensures few { IfOk result (λ x. x.0.used ≤ 15) }
+    ensures reads { Parses (λ x. (part_view x.0, x.1.now)) result (operation_at MOST_COMPARISONS used name.now text.now) }
+    ensures few { IfOk result (λ x. x.0.used ≤ MOST_COMPARISONS) }
 {
     let (operator, rest) = operator(text)?;
     let rest = room(used, rest)?;
@@ -116,8 +117,8 @@ fn operand<'a>(
     operator: Operator,
     text: &'a [char],
 ) -> Result<(PartRead, &'a [char]), ParseStop<'a>>
-    ensures reads { Gives (λ x. (part_view x.0, x.1.now)) result (operand_at most_comparisons used name.now operator text.now) }
-    ensures few { IfOk result (λ x. x.0.used ≤ 15) }
+    ensures reads { Parses (λ x. (part_view x.0, x.1.now)) result (operand_at MOST_COMPARISONS used name.now operator text.now) }
+    ensures few { IfOk result (λ x. x.0.used ≤ MOST_COMPARISONS) }
 {
     let rest = room(used, text)?;
     compared(alloc, used, name, operator, rest)
@@ -149,9 +150,9 @@ fn part(
     text: &[char],
     depth: usize,
 ) -> Result<(PartRead, &[char]), ParseStop<'_>>
-    requires { used ≤ 15 }
-    ensures reads { Gives (λ x. (part_view x.0, x.1.now)) result (part_at most_comparisons (inner_at most_comparisons most_parts depth) used text.now) }
-    ensures few { IfOk result (λ x. x.0.used ≤ 15) }
+    requires { used ≤ MOST_COMPARISONS }
+    ensures reads { Parses (λ x. (part_view x.0, x.1.now)) result (part_at MOST_COMPARISONS (inner_at MOST_COMPARISONS MOST_PARTS depth) used text.now) }
+    ensures few { IfOk result (λ x. x.0.used ≤ MOST_COMPARISONS) }
 {
     if starts('(', text) {
         return group(alloc, used, text, past_first(text), depth);
@@ -175,9 +176,9 @@ fn group<'a>(
     rest: &'a [char],
     depth: usize,
 ) -> Result<(PartRead, &'a [char]), ParseStop<'a>>
-    requires { used ≤ 15 }
-    ensures reads { Gives (λ x. (part_view x.0, x.1.now)) result (inner_at most_comparisons most_parts depth false used text.now rest.now) }
-    ensures few { IfOk result (λ x. x.0.used ≤ 15) }
+    requires { used ≤ MOST_COMPARISONS }
+    ensures reads { Parses (λ x. (part_view x.0, x.1.now)) result (inner_at MOST_COMPARISONS MOST_PARTS depth false used text.now rest.now) }
+    ensures few { IfOk result (λ x. x.0.used ≤ MOST_COMPARISONS) }
 {
     if depth == 0 {
         return Err(ParseStop::Deep(text));
@@ -193,9 +194,9 @@ fn grouped(
     text: &[char],
     depth: usize,
 ) -> Result<(PartRead, &[char]), ParseStop<'_>>
-    requires { used ≤ 15 }
-    ensures reads { Gives (λ x. (part_view x.0, x.1.now)) result (closed_group (any_at (part_at most_comparisons (inner_at most_comparisons most_parts depth)) most_parts most_parts used text.now)) }
-    ensures few { IfOk result (λ x. x.0.used ≤ 15) }
+    requires { used ≤ MOST_COMPARISONS }
+    ensures reads { Parses (λ x. (part_view x.0, x.1.now)) result (closed_group (any_at (part_at MOST_COMPARISONS (inner_at MOST_COMPARISONS MOST_PARTS depth)) MOST_PARTS MOST_PARTS used text.now)) }
+    ensures few { IfOk result (λ x. x.0.used ≤ MOST_COMPARISONS) }
 {
     let (inner, rest) = any(alloc, used, text, depth, MOST_PARTS)?;
     closed(inner, rest)
@@ -203,9 +204,9 @@ fn grouped(
 
 /// The `)` of a group.
 fn closed(inner: AnyRead, text: &[char]) -> Result<(PartRead, &[char]), ParseStop<'_>>
-    requires { inner.used ≤ 15 }
-    ensures reads { Gives (λ x. (part_view x.0, x.1.now)) result (closed_group (Ok (any_view inner, text.now))) }
-    ensures few { IfOk result (λ x. x.0.used ≤ 15) }
+    requires { inner.used ≤ MOST_COMPARISONS }
+    ensures reads { Parses (λ x. (part_view x.0, x.1.now)) result (closed_group (Ok (any_view inner, text.now))) }
+    ensures few { IfOk result (λ x. x.0.used ≤ MOST_COMPARISONS) }
 {
     let rest = expect(')', text)?;
     Ok((
@@ -228,9 +229,9 @@ fn negation<'a>(
     rest: &'a [char],
     depth: usize,
 ) -> Result<(PartRead, &'a [char]), ParseStop<'a>>
-    requires { used ≤ 15 }
-    ensures reads { Gives (λ x. (part_view x.0, x.1.now)) result (inner_at most_comparisons most_parts depth true used text.now rest.now) }
-    ensures few { IfOk result (λ x. x.0.used ≤ 15) }
+    requires { used ≤ MOST_COMPARISONS }
+    ensures reads { Parses (λ x. (part_view x.0, x.1.now)) result (inner_at MOST_COMPARISONS MOST_PARTS depth true used text.now rest.now) }
+    ensures few { IfOk result (λ x. x.0.used ≤ MOST_COMPARISONS) }
 {
     if depth == 0 {
         return unopened(alloc, used, text, rest);
@@ -246,8 +247,8 @@ fn unopened<'a>(
     text: &'a [char],
     rest: &'a [char],
 ) -> Result<(PartRead, &'a [char]), ParseStop<'a>>
-    ensures reads { Gives (λ x. (part_view x.0, x.1.now)) result (unless_sole most_comparisons used text.now (sole_operator rest.now)) }
-    ensures few { IfOk result (λ x. x.0.used ≤ 15) }
+    ensures reads { Parses (λ x. (part_view x.0, x.1.now)) result (unless_sole MOST_COMPARISONS used text.now (sole_operator rest.now)) }
+    ensures few { IfOk result (λ x. x.0.used ≤ MOST_COMPARISONS) }
 {
     match sole_operator(rest) {
         Some((operator, rest)) => operand(alloc, used, &NOT, operator, rest),
@@ -267,6 +268,7 @@ fn sole_operator(text: &[char]) -> Option<(Operator, &[char])>
     }
 }
 
+/// The same behind the spaces.
 fn sole_name(text: &[char]) -> Option<(Operator, &[char])>
     ensures { option_map (λ x. (x.0, x.1.now)) result ≡ sole_name text.now }
 {
@@ -296,9 +298,9 @@ fn second(
     text: &[char],
     depth: usize,
 ) -> Result<(PartRead, &[char]), ParseStop<'_>>
-    requires { used ≤ 15 }
-    ensures reads { Gives (λ x. (part_view x.0, x.1.now)) result (second_at most_comparisons (inner_at most_comparisons most_parts depth) used text.now) }
-    ensures few { IfOk result (λ x. x.0.used ≤ 15) }
+    requires { used ≤ MOST_COMPARISONS }
+    ensures reads { Parses (λ x. (part_view x.0, x.1.now)) result (second_at MOST_COMPARISONS (inner_at MOST_COMPARISONS MOST_PARTS depth) used text.now) }
+    ensures few { IfOk result (λ x. x.0.used ≤ MOST_COMPARISONS) }
 {
     if starts('(', text) {
         let (inner, rest) = group(alloc, used, text, past_first(text), depth)?;
@@ -321,8 +323,8 @@ fn ambiguous<'a>(
     name: &[char],
     text: &'a [char],
 ) -> Result<(PartRead, &'a [char]), ParseStop<'a>>
-    ensures reads { Gives (λ x. (part_view x.0, x.1.now)) result (ambiguous_at most_comparisons (operator_named name.now) used name.now text.now) }
-    ensures few { IfOk result (λ x. x.0.used ≤ 15) }
+    ensures reads { Parses (λ x. (part_view x.0, x.1.now)) result (ambiguous_at MOST_COMPARISONS (operator_named name.now) used name.now text.now) }
+    ensures few { IfOk result (λ x. x.0.used ≤ MOST_COMPARISONS) }
 {
     if let Some(operator) = operator_named(name)
         && begins_literal(text)
@@ -333,26 +335,25 @@ fn ambiguous<'a>(
     negated(alloc, inner, rest)
 }
 
+/// The negation of a part that is read.
 fn negated(
     alloc: Global,
     inner: PartRead,
     text: &[char],
 ) -> Result<(PartRead, &[char]), ParseStop<'_>>
-    requires { inner.used ≤ 15 }
-    ensures reads { Gives (λ x. (part_view x.0, x.1.now)) result (negated (Ok (part_view inner, text.now))) }
-    ensures few { IfOk result (λ x. x.0.used ≤ 15) }
+    requires { inner.used ≤ MOST_COMPARISONS }
+    ensures reads { Parses (λ x. (part_view x.0, x.1.now)) result (negated (Ok (part_view inner, text.now))) }
+    ensures few { IfOk result (λ x. x.0.used ≤ MOST_COMPARISONS) }
 {
-    match Node::not(alloc, inner.node) {
-        Ok(node) => Ok((
-            PartRead {
-                node,
-                closed: inner.closed,
-                used: inner.used,
-            },
-            text,
-        )),
-        Err(_) => Err(ParseStop::Memory),
-    }
+    let node = Node::not(alloc, inner.node)?;
+    Ok((
+        PartRead {
+            node,
+            closed: inner.closed,
+            used: inner.used,
+        },
+        text,
+    ))
 }
 
 /// Parts joined by `and`, `room` of them at most.
@@ -365,9 +366,9 @@ fn all(
     depth: usize,
     room: usize,
 ) -> Result<(AllRead, &[char]), ParseStop<'_>>
-    requires { used ≤ 15 }
-    ensures reads { Gives (λ x. (all_view x.0, x.1.now)) result (all_at (part_at most_comparisons (inner_at most_comparisons most_parts depth)) room used text.now) }
-    ensures few { IfOk result (λ x. x.0.used ≤ 15) }
+    requires { used ≤ MOST_COMPARISONS }
+    ensures reads { Parses (λ x. (all_view x.0, x.1.now)) result (all_at (part_at MOST_COMPARISONS (inner_at MOST_COMPARISONS MOST_PARTS depth)) room used text.now) }
+    ensures few { IfOk result (λ x. x.0.used ≤ MOST_COMPARISONS) }
 {
     if room == 0 {
         return Err(ParseStop::TooMany);
@@ -391,27 +392,26 @@ fn all(
     }
 }
 
+/// A part and those behind an `and`.
 fn both(
     alloc: Global,
     first: PartRead,
     others: AllRead,
     text: &[char],
 ) -> Result<(AllRead, &[char]), ParseStop<'_>>
-    requires { others.used ≤ 15 }
-    ensures reads { Gives {Y = AllView × List ℕ} (λ x. (all_view x.0, x.1.now)) result (Ok (record { tree = Both (tree_of first.node) (tree_of others.node); joint = others.joint; used = others.used }, text.now)) }
-    ensures few { IfOk result (λ x. x.0.used ≤ 15) }
+    requires { others.used ≤ MOST_COMPARISONS }
+    ensures reads { Parses {Y = AllView × List ℕ} (λ x. (all_view x.0, x.1.now)) result (Ok (record { tree = Both (tree_of first.node) (tree_of others.node); joint = others.joint; used = others.used }, text.now)) }
+    ensures few { IfOk result (λ x. x.0.used ≤ MOST_COMPARISONS) }
 {
-    match Node::and(alloc, first.node, others.node) {
-        Ok(node) => Ok((
-            AllRead {
-                node,
-                joint: others.joint,
-                used: others.used,
-            },
-            text,
-        )),
-        Err(_) => Err(ParseStop::Memory),
-    }
+    let node = Node::and(alloc, first.node, others.node)?;
+    Ok((
+        AllRead {
+            node,
+            joint: others.joint,
+            used: others.used,
+        },
+        text,
+    ))
 }
 
 /// Parts joined by `and` and by `or`, of the latter `room` at most.
@@ -424,9 +424,9 @@ pub fn any(
     depth: usize,
     room: usize,
 ) -> Result<(AnyRead, &[char]), ParseStop<'_>>
-    requires { used ≤ 15 }
-    ensures reads { Gives (λ x. (any_view x.0, x.1.now)) result (any_at (part_at most_comparisons (inner_at most_comparisons most_parts depth)) most_parts room used text.now) }
-    ensures few { IfOk result (λ x. x.0.used ≤ 15) }
+    requires { used ≤ MOST_COMPARISONS }
+    ensures reads { Parses (λ x. (any_view x.0, x.1.now)) result (any_at (part_at MOST_COMPARISONS (inner_at MOST_COMPARISONS MOST_PARTS depth)) MOST_PARTS room used text.now) }
+    ensures few { IfOk result (λ x. x.0.used ≤ MOST_COMPARISONS) }
 {
     if room == 0 {
         return Err(ParseStop::TooMany);
@@ -448,24 +448,23 @@ pub fn any(
     }
 }
 
+/// Parts and those behind an `or`.
 fn either(
     alloc: Global,
     first: AllRead,
     others: AnyRead,
     text: &[char],
 ) -> Result<(AnyRead, &[char]), ParseStop<'_>>
-    requires { others.used ≤ 15 }
-    ensures reads { Gives {Y = AnyView × List ℕ} (λ x. (any_view x.0, x.1.now)) result (Ok (record { tree = Either (tree_of first.node) (tree_of others.node); used = others.used }, text.now)) }
-    ensures few { IfOk result (λ x. x.0.used ≤ 15) }
+    requires { others.used ≤ MOST_COMPARISONS }
+    ensures reads { Parses {Y = AnyView × List ℕ} (λ x. (any_view x.0, x.1.now)) result (Ok (record { tree = Either (tree_of first.node) (tree_of others.node); used = others.used }, text.now)) }
+    ensures few { IfOk result (λ x. x.0.used ≤ MOST_COMPARISONS) }
 {
-    match Node::or(alloc, first.node, others.node) {
-        Ok(node) => Ok((
-            AnyRead {
-                node,
-                used: others.used,
-            },
-            text,
-        )),
-        Err(_) => Err(ParseStop::Memory),
-    }
+    let node = Node::or(alloc, first.node, others.node)?;
+    Ok((
+        AnyRead {
+            node,
+            used: others.used,
+        },
+        text,
+    ))
 }

@@ -1,3 +1,5 @@
+//! Filters as trees: comparisons joined by `not`, `and` and `or`.
+
 ghost use Rattle.std.specs.Prelude.{◌≡◌, IfOk};
 ghost use Rattle.tab_filter.specs.Trees.{tree_of, Negation, Both, Either};
 
@@ -32,20 +34,15 @@ pub struct Comparison {
 }
 
 impl Comparison {
+    /// A copy in memory of its own.
     pub fn try_copy(&self, alloc: Global) -> Result<Comparison, Memory>
         ensures { IfOk result (λ copy. copy ≡ self.now) }
     {
-        let Ok(name) = self.name.try_copy(alloc) else {
-            return Err(Memory);
-        };
-        match self.value.try_copy(alloc) {
-            Ok(value) => Ok(Comparison {
-                name,
-                operator: self.operator,
-                value,
-            }),
-            Err(_) => Err(Memory),
-        }
+        Ok(Comparison {
+            name: self.name.try_copy(alloc).map_err(|_| Memory)?,
+            operator: self.operator,
+            value: self.value.try_copy(alloc).map_err(|_| Memory)?,
+        })
     }
 }
 
@@ -59,6 +56,7 @@ pub enum Node {
 }
 
 impl Node {
+    /// A copy in memory of its own.
     pub fn try_copy(&self, alloc: Global) -> Result<Node, Memory>
         ensures { IfOk result (λ copy. tree_of copy ≡ tree_of self.now) }
     {
@@ -74,37 +72,27 @@ impl Node {
         }
     }
 
+    /// The negation of a node.
     pub fn not(alloc: Global, inner: Node) -> Result<Node, Memory>
         ensures { IfOk result (λ node. tree_of node ≡ Negation (tree_of inner)) }
     {
-        match Box::new(alloc, inner) {
-            Ok(inner) => Ok(Node::Not(inner)),
-            Err(_) => Err(Memory),
-        }
+        Ok(Node::Not(Box::new(alloc, inner)?))
     }
 
+    /// Two nodes joined by `and`.
     pub fn and(alloc: Global, first: Node, second: Node) -> Result<Node, Memory>
         ensures { IfOk result (λ node. tree_of node ≡ Both (tree_of first) (tree_of second)) }
     {
-        let Ok(first) = Box::new(alloc, first) else {
-            return Err(Memory);
-        };
-        match Box::new(alloc, second) {
-            Ok(second) => Ok(Node::And(first, second)),
-            Err(_) => Err(Memory),
-        }
+        let first = Box::new(alloc, first)?;
+        Ok(Node::And(first, Box::new(alloc, second)?))
     }
 
+    /// Two nodes joined by `or`.
     pub fn or(alloc: Global, first: Node, second: Node) -> Result<Node, Memory>
         ensures { IfOk result (λ node. tree_of node ≡ Either (tree_of first) (tree_of second)) }
     {
-        let Ok(first) = Box::new(alloc, first) else {
-            return Err(Memory);
-        };
-        match Box::new(alloc, second) {
-            Ok(second) => Ok(Node::Or(first, second)),
-            Err(_) => Err(Memory),
-        }
+        let first = Box::new(alloc, first)?;
+        Ok(Node::Or(first, Box::new(alloc, second)?))
     }
 }
 
@@ -126,18 +114,21 @@ impl Model for Filter {
 }
 
 impl Filter {
+    /// The filter with this root.
     pub(crate) fn new(root: Node) -> Filter
         ensures { result ≡ tree_of root }
     {
         Filter { root }
     }
 
+    /// The node that the whole filter is.
     pub(crate) fn root(&self) -> &Node
         ensures { tree_of result.now ≡ self.now }
     {
         &self.root
     }
 
+    /// A copy in memory of its own.
     pub fn try_copy(&self, alloc: Global) -> Result<Filter, Memory>
         ensures { IfOk result (λ copy. copy ≡ self.now) }
     {

@@ -1,3 +1,5 @@
+//! Whether a row matches a filter.
+
 ghost use Rattle.std.specs.Prelude.{◌≡◌, codes, bytes_eq};
 ghost use Rattle.tab_edm.specs.declared.values.Value.TheVariants.{Text, Int64};
 ghost use Rattle.tab_keys.specs.Order.{text_cmp};
@@ -8,7 +10,7 @@ use crate::trees::Node;
 use crate::{Comparison, Filter, Operator};
 use std::cmp::Ordering;
 use tab_edm::{Entity, Value};
-use tab_keys::KeyText;
+use tab_keys::{KeyText, utf16_cmp};
 
 impl Filter {
     /// Whether the row with these keys, this tick and this entity matches.
@@ -59,6 +61,7 @@ fn comparison_holds(
     }
 }
 
+/// Whether the name stands for a row's partition key.
 #[tactic(auto, unfolding(crate::specs::Truth::is_partition_key))]
 pub fn is_partition_key(name: &str) -> bool
     ensures { result ≡ is_partition_key name.now }
@@ -66,6 +69,7 @@ pub fn is_partition_key(name: &str) -> bool
     name == "PartitionKey"
 }
 
+/// Whether the name stands for a row's row key.
 #[tactic(auto, unfolding(crate::specs::Truth::is_row_key))]
 pub fn is_row_key(name: &str) -> bool
     ensures { result ≡ is_row_key name.now }
@@ -104,7 +108,7 @@ fn text_holds(text: &str, operator: Operator, literal: &Value) -> bool
     ensures { result ≡ value_holds (Text text.now) operator literal.now }
 {
     match literal {
-        Value::Text(other) => operator_holds(operator, compare_units(text, other.as_str())),
+        Value::Text(other) => operator_holds(operator, utf16_cmp(text, other.as_str())),
         _ => false,
     }
 }
@@ -120,13 +124,7 @@ fn number_holds(number: i64, operator: Operator, literal: &Value) -> bool
     }
 }
 
-/// The order of two texts by their UTF-16 code units.
-pub fn compare_units(a: &str, b: &str) -> Ordering
-    ensures { result ≡ text_cmp a.now b.now }
-{
-    a.encode_utf16().cmp(b.encode_utf16())
-}
-
+/// What an operator says of the order of a property's value and the literal.
 pub fn operator_holds(operator: Operator, order: Ordering) -> bool
     ensures { result ≡ operator_holds operator order }
 {

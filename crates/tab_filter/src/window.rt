@@ -1,3 +1,5 @@
+//! Windows: the keys outside of which no row can match a filter, by the comparisons of keys that `and` joins.
+
 ghost use Rattle.std.specs.Prelude.{◌≡◌, ℕ, List, ◌++◌, [], true, false, IfOk, OnOk};
 ghost use Rattle.std.specs.Ordering.{is_lt, ordering_then};
 ghost use Rattle.tab_keys.specs.Order.{text_cmp};
@@ -6,12 +8,12 @@ ghost use Rattle.tab_filter.specs.Truth.{FilteredRow, truth};
 ghost use Rattle.tab_filter.specs.Windows.{WindowView, window_of, all_meet, has, lower_corner, reaches, below, narrowings, narrowing_of, meets, is_too_great, is_too_small, fixes, any_fixes, any_fixes_at, any_too_great, any_too_small, is_lower, is_of_part, greater_corner};
 
 use crate::trees::Node;
-use crate::truth::{compare_units, is_partition_key, is_row_key, operator_holds};
+use crate::truth::{is_partition_key, is_row_key, operator_holds};
 use crate::{Comparison, Filter, Operator};
 use std::alloc::Global;
 use std::marker::Model;
 use tab_edm::Value;
-use tab_keys::{KeyRefused, KeyText, Memory};
+use tab_keys::{KeyRefused, KeyText, Memory, utf16_cmp};
 
 /// A comparison of a key with a text, as it narrows the keys.
 #[derive(Debug, Drop)]
@@ -21,6 +23,7 @@ pub struct Narrowing {
 }
 
 impl Narrowing {
+    /// A copy in memory of its own.
     pub fn try_copy(&self, alloc: Global) -> Result<Narrowing, Memory>
         ensures { IfOk result (λ copy. copy ≡ self.now) }
     {
@@ -34,17 +37,14 @@ impl Narrowing {
     fn meets(&self, key: &KeyText) -> bool
         ensures { result ≡ meets self.now key.now }
     {
-        operator_holds(
-            self.operator,
-            compare_units(key.as_str(), self.text.as_str()),
-        )
+        operator_holds(self.operator, utf16_cmp(key.as_str(), self.text.as_str()))
     }
 
     /// Whether it leaves this key out as too great.
     fn is_too_great(&self, key: &str) -> bool
         ensures { result ≡ is_too_great self.now key.now }
     {
-        let order = compare_units(key, self.text.as_str());
+        let order = utf16_cmp(key, self.text.as_str());
         match self.operator {
             Operator::Equal | Operator::LessOrEqual => order.is_gt(),
             Operator::Less => order.is_ge(),
@@ -56,7 +56,7 @@ impl Narrowing {
     fn is_too_small(&self, key: &KeyText) -> bool
         ensures { result ≡ is_too_small self.now key.now }
     {
-        let order = compare_units(key.as_str(), self.text.as_str());
+        let order = utf16_cmp(key.as_str(), self.text.as_str());
         match self.operator {
             Operator::Equal | Operator::GreaterOrEqual => order.is_lt(),
             Operator::Greater => order.is_le(),
@@ -69,7 +69,7 @@ impl Narrowing {
         ensures { result ≡ fixes self.now key.now }
     {
         matches!(self.operator, Operator::Equal)
-            && compare_units(key.as_str(), self.text.as_str()).is_eq()
+            && utf16_cmp(key.as_str(), self.text.as_str()).is_eq()
     }
 
     /// Whether no key below its text is left in.
@@ -125,6 +125,7 @@ impl Window {
         }
     }
 
+    /// Whether no comparison of its keys leaves this key out.
     pub fn has(&self, pk: &KeyText, rk: &KeyText) -> bool
         ensures { result ≡ has self.now pk.now rk.now }
     {
@@ -154,6 +155,7 @@ impl Window {
         any_too_small(&self.partitions, pk)
     }
 
+    /// A copy in memory of its own.
     pub fn try_copy(&self, alloc: Global) -> Result<Window, Memory>
         ensures { IfOk result (λ copy. copy ≡ self.now) }
     {
@@ -209,14 +211,11 @@ fn add_narrowing(
     };
     match KeyText::new(alloc, text.as_str()) {
         Ok(text) => {
-            let narrowing = Narrowing {
+            out.push(Narrowing {
                 operator: comparison.operator,
                 text,
-            };
-            match out.push(narrowing) {
-                Ok(()) => Ok(()),
-                Err(_) => Err(Memory),
-            }
+            })?;
+            Ok(())
         }
         Err(KeyRefused::Memory) => Err(Memory),
         Err(_) => Ok(()),
@@ -290,7 +289,7 @@ fn lower_corner(narrowings: &[Narrowing]) -> &str
 fn greater_corner<'a>(narrowing: &'a Narrowing, corner: &'a str) -> &'a str
     ensures { result.now ≡ greater_corner narrowing.now corner.now }
 {
-    if narrowing.is_lower() && compare_units(narrowing.text.as_str(), corner).is_gt() {
+    if narrowing.is_lower() && utf16_cmp(narrowing.text.as_str(), corner).is_gt() {
         narrowing.text.as_str()
     } else {
         corner
@@ -302,10 +301,7 @@ fn copied(alloc: Global, narrowings: &[Narrowing]) -> Result<Vec<Narrowing>, Mem
 {
     let mut copy = Vec::new(alloc);
     for narrowing in narrowings {
-        let narrowing = narrowing.try_copy(alloc)?;
-        let Ok(()) = copy.push(narrowing) else {
-            return Err(Memory);
-        };
+        copy.push(narrowing.try_copy(alloc)?)?;
     }
     Ok(copy)
 }

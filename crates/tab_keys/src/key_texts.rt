@@ -1,6 +1,6 @@
-//! Partition keys and row keys: which texts are keys, and their order. The limits and the characters that are refused are
-//! those of Microsoft's Table service REST reference, "Understanding the Table service data model", "Characters disallowed in
-//! key fields".
+//! Partition keys and row keys: which texts are keys, and their order. The limits and the characters that are
+//! refused are those of Microsoft's Table service REST reference, "Understanding the Table service data model",
+//! "Characters disallowed in key fields".
 
 ghost use Rattle.std.specs.Prelude.{◌≡◌, length, IfOk, MatchResult, None};
 ghost use Rattle.std.specs.Option.{unwrap_or};

@@ -1,5 +1,5 @@
-//! Keys of a table service: key texts, table names, keys in the order of their UTF-16 code units, the bounds
-//! that cut the space of keys, and spans between two bounds.
+//! Keys of a table service: key texts, table names, keys in the order of their UTF-16 code units, the bounds that
+//! cut the space of keys, and spans between two bounds.
 #![tactic(auto)]
 
 mod bounds;
