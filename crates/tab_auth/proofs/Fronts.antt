@@ -43,12 +43,12 @@ two_fronts account path middle None e lacks =
 two_fronts account path middle (Some left) e is = e ∙ ap (λ (rest : List ℕ). 47 ∷ rest) is
 
 -- a list has an element that passes a test where its first one lies within
-any_within : (p : ℕ → Bool) (xs : List ℕ) → position_or_len p xs < length xs → list_any p xs ≡ true
+pub any_within : (p : ℕ → Bool) (xs : List ℕ) → position_or_len p xs < length xs → list_any p xs ≡ true
 any_within p [] = λ h. absurd (omega arith)
 any_within p (x ∷ xs) =
     elim (p x) as (λ test. cond (not test) (1 + position_or_len p xs) 0 < suc (length xs) → (test || list_any p xs) ≡ true) [ true ↦ λ h. refl | false ↦ λ h. any_within p xs (omega arith) ]
 
-none_within : (p : ℕ → Bool) (xs : List ℕ) → position_or_len p xs ≡ length xs → list_any p xs ≡ false
+pub none_within : (p : ℕ → Bool) (xs : List ℕ) → position_or_len p xs ≡ length xs → list_any p xs ≡ false
 none_within p [] = λ h. refl
 none_within p (x ∷ xs) =
     elim (p x) as (λ test. cond (not test) (1 + position_or_len p xs) 0 ≡ suc (length xs) → (test || list_any p xs) ≡ false) [ true ↦ λ h. absurd (omega arith) | false ↦ λ h. none_within p xs (omega arith) ]

@@ -3,8 +3,10 @@ use Rattle.std.specs.Prelude.{ℕ, ◌/◌, ◌≡◌, ◌⊎◌, List, [], ◌�
 use Rattle.std.specs.Option.{option_or}
 use Rattle.std.specs.List.{list_any, starts_with, before_first, after_first}
 use Rattle.httpdate.specs.Date.{parse_secs}
+use Rattle.tab_edm.specs.declared.TheConstants.{TICKS_IN_A_SECOND}
 use Rattle.tab_auth.specs.Signatures.{signature, resource_of}
 use Rattle.tab_auth.specs.declared.signatures.Keys.{Keys}
+use Rattle.tab_auth.specs.declared.checks.TheConstants.{SECONDS_FROM_1601_TO_1970, MOST_SECONDS}
 use Rattle.tab_auth.specs.declared.checks.Signed.{Signed}
 use Rattle.tab_auth.specs.declared.checks.AuthRefused.{AuthRefused}
 use Rattle.tab_auth.specs.declared.checks.AuthRefused.TheVariants.{Missing, UnknownAccount, DateUnread, TooOld, TooEarly, Differs, Memory}
@@ -41,12 +43,12 @@ is_known account claimed path = bytes_eq claimed account && names_account accoun
 
 -- whole seconds since 1970-01-01T00:00:00Z at a tick, 100 ns since 1601-01-01T00:00:00Z; below 0 before 1970
 abbrev pub unix_second : ℕ → ℤ
-unix_second tick = pos (tick / 10_000_000) -ℤ pos 11_644_473_600
+unix_second tick = pos (tick / TICKS_IN_A_SECOND) -ℤ SECONDS_FROM_1601_TO_1970
 
 -- a date is at most 900 seconds past and at most 900 seconds ahead
 abbrev pub age_refusal : ℤ → ℤ → Option AuthRefused
 age_refusal now date =
-    if int_lt (date +ℤ pos 900) now then Some TooOld else (if int_lt (now +ℤ pos 900) date then Some TooEarly else None)
+    if int_lt (date +ℤ MOST_SECONDS) now then Some TooOld else (if int_lt (now +ℤ MOST_SECONDS) date then Some TooEarly else None)
 
 -- there is a date, in one of the forms of HTTP, of about now
 abbrev pub date_refusal : ℕ → Option ℕ → Option AuthRefused

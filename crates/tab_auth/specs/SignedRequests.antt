@@ -4,6 +4,7 @@ use Rattle.std.specs.List.{list_any}
 use Rattle.httpdate.specs.Date.{parse_secs}
 use Rattle.tab_auth.specs.Signatures.{signature, resource_of}
 use Rattle.tab_auth.specs.Checks.{unix_second}
+use Rattle.tab_auth.specs.declared.checks.TheConstants.{MOST_SECONDS}
 use Rattle.tab_auth.specs.declared.checks.Signed.{Signed}
 
 -- a request of an account: its header is `SharedKeyLite`, a space, the account, a colon and the signature of its date and
@@ -19,5 +20,5 @@ pub record IsSigned (account key : List ℕ) (signed : Signed) (now : ℕ) : Typ
   pub rest_is : (rest ≡ []) ⊎ ((more : List ℕ) × (rest ≡ codes "/" ++ more))
   pub date_is : signed.date ≡ Some date
   pub second_is : parse_secs date ≡ Some second
-  pub not_old : unix_second now ≤ℤ (pos second +ℤ pos 900)
-  pub not_early : pos second ≤ℤ (unix_second now +ℤ pos 900)
+  pub not_old : unix_second now ≤ℤ (pos second +ℤ MOST_SECONDS)
+  pub not_early : pos second ≤ℤ (unix_second now +ℤ MOST_SECONDS)

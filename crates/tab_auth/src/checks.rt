@@ -1,3 +1,6 @@
+//! Whether a request may be taken for its signature: the scheme Shared Key Lite of Microsoft's Table service REST
+//! reference, "Authorize with Shared Key", with dates in the forms of RFC 9110, section 5.6.7.
+
 ghost use Rattle.std.specs.Prelude.{◌≡◌, ◌≢◌, ◌↔◌, Some, None, MatchResult, IfOk, IfSome, IfNone, string_bytes, option_map, pos, negsuc, ◌≤ℤ◌};
 ghost use Rattle.httpdate.specs.Date.{parse_secs};
 ghost use Rattle.tab_auth.specs.Signatures.{signature, resource_of};
@@ -9,10 +12,9 @@ use crate::claims::{is_same, names_account, read_claim};
 use crate::signatures::{resource_of, sign};
 use httpdate::HttpDate;
 use std::alloc::Global;
-use tab_edm::{Memory, TextValue};
+use tab_edm::{Memory, TICKS_IN_A_SECOND, TextValue};
 
-const TICKS_IN_A_SECOND: u64 = 10_000_000;
-
+/// The seconds from the first tick to the moment that dates of HTTP are counted from.
 const SECONDS_FROM_1601_TO_1970: i64 = 11_644_473_600;
 
 /// How far a date may lie from now, either way.

@@ -1,3 +1,5 @@
+//! What the header Authorization claims, and whose path a request goes to.
+
 ghost use Rattle.std.specs.Prelude.{◌≡◌, ◌≢◌, ◌++◌, List, ℕ, MatchOption, Some, None, bytes_eq, codes};
 ghost use Rattle.tab_auth.specs.Checks.{claim_of, names_account, ends_segment};
 

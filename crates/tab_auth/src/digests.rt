@@ -1,5 +1,8 @@
+//! HMAC with SHA-256: RFC 2104, section 2, over FIPS 180-4.
+
 ghost use Rattle.std.specs.Prelude.{◌≡◌, ◌≤◌, List, ℕ, ◌++◌, length};
 ghost use Rattle.sha2.specs.Hashers.{Holds256};
+ghost use Rattle.tab_auth.specs.declared.digests.TheConstants.{BLOCK};
 ghost use Rattle.tab_auth.specs.Digests.{padded_key, masked, keyed_digest, hmac};
 
 use sha2::{Digest, Sha256};
@@ -21,7 +24,7 @@ pub fn hmac(key: &[u8], text: &[u8]) -> [u8; 32]
 
 /// The same under a key that is no longer than a block.
 fn hmac_within_block(key: &[u8], text: &[u8]) -> [u8; 32]
-    requires { length key.now ≤ 64 }
+    requires { length key.now ≤ BLOCK }
     ensures { result ≡ keyed_digest 0x5C key.now (keyed_digest 0x36 key.now text.now) }
 {
     let inner = keyed_digest(0x36, key, text);
@@ -30,7 +33,7 @@ fn hmac_within_block(key: &[u8], text: &[u8]) -> [u8; 32]
 
 /// The digest of a key's masked block and a text.
 fn keyed_digest(mask: u8, key: &[u8], text: &[u8]) -> [u8; 32]
-    requires { length key.now ≤ 64 }
+    requires { length key.now ≤ BLOCK }
     ensures { result ≡ keyed_digest mask key.now text.now }
 {
     let mut hasher = Sha256::new();

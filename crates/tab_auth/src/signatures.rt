@@ -1,3 +1,6 @@
+//! Signatures of the scheme Shared Key Lite for the Table service (Microsoft's Table service REST reference,
+//! "Authorize with Shared Key", "Shared Key Lite authorization").
+
 ghost use Rattle.std.specs.Prelude.{◌≡◌, ◌++◌, IsSome, IfSome, IfOk, Option, List, ℕ, string_bytes, option_copied};
 ghost use Rattle.tab_auth.specs.Signatures.{signature, resource_of};
 

@@ -2,6 +2,7 @@
 use Rattle.std.proofs.Common.{◌≡◌, ℕ, zero, suc, ◌+◌, ◌<◌, List, [], ◌∷◌, length, drop, get_or, Option, Some, None, Ok, Err, ◌≤◌, refl, sym, ap, ◌∙◌, arith, drop-cons, add-one}
 use Rattle.std.proofs.lemmas.Bool.{lt-ltb, le-ltb}
 use Rattle.std.proofs.lemmas.List.{get_or_default}
+use Rattle.std.proofs.lemmas.Option.{none-some}
 use Rattle.std.proofs.Math.Seq.{drop-length}
 use Rattle.std.specs.List.{All}
 use Rattle.std.specs.Option.{option_or}
@@ -25,13 +26,14 @@ stops ps i p d fault h is some so_far =
     let here : p ≡ get_or ps i d = is ∙ get_or_default ps i p d h in
     so_far ∙ first_refusal-drop ps i d h ∙ rw (← here, some) refl
 
-first_none : (r later : Option EdmRefused) → option_or r later ≡ None → r ≡ None
+-- of two refusals in turn there is none where both are none
+pub first_none : {R : Type 0} (r later : Option R) → option_or r later ≡ None → r ≡ None
 first_none None later e = refl
-first_none (Some why) later e = cc
+first_none (Some why) later e = absurd (none-some why (sym e))
 
-later_none : (r later : Option EdmRefused) → option_or r later ≡ None → later ≡ None
+pub later_none : {R : Type 0} (r later : Option R) → option_or r later ≡ None → later ≡ None
 later_none None later e = e
-later_none (Some why) later e = cc
+later_none (Some why) later e = absurd (none-some why (sym e))
 
 -- where no property is refused, each is allowed
 pub each_allowed : (ps : List Property) → first_refusal ps ≡ None → All (λ p. property_refusal p ≡ None) ps

@@ -1,5 +1,5 @@
-//! Entities: lists of properties within the limits of Microsoft's Table service REST reference, "Understanding the Table
-//! service data model", "Entities", with the size that it counts them for.
+//! Entities: lists of properties within the limits of Microsoft's Table service REST reference, "Understanding the
+//! Table service data model", "Entities", with the size that it counts them for.
 
 ghost use Rattle.std.specs.Prelude.{◌≡◌, ◌≢◌, ◌≤◌, ◌<◌, List, length, slice_index_or, All, AllPairs, IfOk, IsFalse, MatchOption, Some, None};
 ghost use Rattle.std.specs.List.Sorted.{IsPermutation};

@@ -1,5 +1,5 @@
-//! Moments as texts, in the form of `Edm.DateTime` with a `Z` (OData 3.0; ISO 8601), and the ETags that are made of them (RFC 9110, section
-//! 8.8.3). The calendar is the Gregorian one for all years from 1601 to 9999.
+//! Moments as texts, in the form of `Edm.DateTime` with a `Z` (OData 3.0; ISO 8601), and the ETags that are made of
+//! them (RFC 9110, section 8.8.3). The calendar is the Gregorian one for all years from 1601 to 9999.
 
 ghost use Rattle.std.specs.Prelude.{◌≡◌, ℕ, ◌+◌, ◌-◌, ◌*◌, ◌^◌, ◌↔◌, length, take, drop, IsTrue, MatchOption, IfSome, Some, ◌++◌, ◌/◌, ◌%◌, ◌≤◌, ◌<◌, IfOk, OnOk, pos, string_bytes};
 ghost use Rattle.tab_edm.specs.Moments.{CivilDate, IsServed, IsMoment, Spells, moment_of, date_after, last_digits, text_of_date, text_of_time, text_of_fraction, moment_with, text_of_moment, text_of_etag};

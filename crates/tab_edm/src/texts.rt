@@ -1,4 +1,5 @@
-//! Texts and bytes as properties have them, and how long a text is: in UTF-16 code units (RFC 2781) and in characters.
+//! Texts and bytes as properties have them, and how long a text is: in UTF-16 code units (RFC 2781) and in
+//! characters.
 
 ghost use Rattle.std.specs.Prelude.{◌≡◌, IfOk, string_bytes};
 ghost use Rattle.base64.specs.Engines.{standard};

@@ -1,6 +1,6 @@
 //! Values and properties, with the limits of one property: the types of Microsoft's Table service REST reference,
-//! "Understanding the Table service data model", "Property types" (OData 3.0, part "Primitive data types"), and names by
-//! Unicode Standard Annex 31.
+//! "Understanding the Table service data model", "Property types" (OData 3.0, part "Primitive data types"), and
+//! names by Unicode Standard Annex 31.
 
 ghost use Rattle.std.specs.Prelude.{◌≡◌, ◌≤◌, ◌+◌, ◌*◌, IfOk, IsTrue, None, chars};
 ghost use Rattle.std.specs.Option.{option_map};
