@@ -16,7 +16,7 @@ use Rattle.tab_keys.specs.declared.keys.Key.{Key}
 use Rattle.tab_keys.proofs.OrderLaws.{key_lt_asymmetric, key_lt_transitive, key_lt_alike_left, key_lt_alike_right}
 use Rattle.tab_rows.specs.Rows.{RowView, AreRising, row_at, with_row, without_row}
 use Rattle.tab_rows.specs.Indices.{StandsAt, BelongsAt}
-use Rattle.tab_rows.proofs.Filters.{filter_back}
+use Rattle.tab_rows.proofs.Lists.{filter_back, All-take_within, All-drop_within}
 use Rattle.tab_rows.proofs.RowLaws.{with_row-between, row_at-between, without_row-between, with_row-over, row_at-over, without_row-over}
 
 -- ---- where the key belongs
@@ -58,18 +58,6 @@ pub without_row-stands : (rows : List RowView) (key : Key) (index : ℕ) → Sta
 without_row-stands rows key index h = ap (λ xs. without_row xs key) (parts rows key index h) ∙ without_row-over (take index rows) h.row (drop (suc index) rows) key h.below h.same h.above
 
 -- ---- what a binary search finds
-
-module _ {X : Type 0} (P : X → Type 0) (xs : List X) (n : ℕ) where
-  pub All-take_within : n ≤ length xs → AllWithin P xs 0 n → All P (take n xs)
-  All-take_within le h k d below =
-      let l = length-take-le n xs le in
-      let lt : k < n = omega arith in
-      rw get_or-take (h k d (omega arith) lt)
-
-  pub All-drop_within : AllWithin P xs n (length xs) → All P (drop n xs)
-  All-drop_within h k d below =
-      let l = length-drop n xs in
-      rw get_or-drop (h (n + k) d (omega arith) (omega arith))
 
 sorted : (rows : List RowView) → AreRising rows → IsSortedBy (λ a b. is_lt (key_cmp a.key b.key)) rows
 sorted rows rising k d low high = key_lt_asymmetric _ _ (rising k (k + 1) d (omega arith) high)

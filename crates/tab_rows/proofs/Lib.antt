@@ -1,3 +1,3 @@
-mod Filters
+pub mod Lists
 pub mod RowLaws
 mod IndexLemmas

@@ -1,10 +1,12 @@
--- What a filter and a search leave of a list whose elements all pass the test, or all fail it.
-use Rattle.std.proofs.Common.{◌≡◌, zero, suc, ◌+◌, List, [], ◌∷◌, ◌++◌, Bool, true, false, cond, not, length, filter, refl, sym, ap, ◌∙◌, arith}
+-- Lists: what a filter and a search leave of one whose elements all pass the test, or all fail it, pairs of its elements, and
+-- its front and its back.
+use Rattle.std.proofs.Common.{◌≡◌, ℕ, zero, suc, ◌+◌, ◌<◌, ◌≤◌, take, drop, List, [], ◌∷◌, ◌++◌, Bool, true, false, cond, not, length, filter, refl, sym, ap, ◌∙◌, arith}
 use Rattle.std.specs.Prelude.{Option, Some, None, find, All, AllPairs}
 use Rattle.std.specs.Option.{option_or}
 use Rattle.std.proofs.lemmas.Option.{none-some}
 use Rattle.std.proofs.lemmas.List.Elements.{All-nil, All-cons, All-head, All-tail, All-append, All-weaker, filter_passes, filter-append}
-use Rattle.std.proofs.lemmas.List.{append-nil}
+use Rattle.std.proofs.lemmas.List.{append-nil, length-take-le, length-drop, get_or-take, get_or-drop}
+use Rattle.std.specs.List.{AllWithin}
 use Rattle.std.proofs.lemmas.Bool.{true≢false}
 use Rattle.std.proofs.lemmas.List.Kept.{AllPairs-cons}
 use Rattle.std.proofs.lemmas.List.Folds.{find-append}
@@ -118,3 +120,16 @@ module _ {X : Type 0} (R : X → X → Type 0) where
 pub All-split : {X : Type 0} (P : X → Type 0) (xs ys : List X) → All P (xs ++ ys) → All P ys
 All-split P [] ys h = h
 All-split P (x ∷ xs) ys h = All-split P xs ys (All-tail P x (xs ++ ys) h)
+
+-- what holds within a range of indices holds of the front, and of the back
+module _ {X : Type 0} (P : X → Type 0) (xs : List X) (n : ℕ) where
+  pub All-take_within : n ≤ length xs → AllWithin P xs 0 n → All P (take n xs)
+  All-take_within le h k d below =
+      let l = length-take-le n xs le in
+      let lt : k < n = omega arith in
+      rw get_or-take (h k d (omega arith) lt)
+
+  pub All-drop_within : AllWithin P xs n (length xs) → All P (drop n xs)
+  All-drop_within h k d below =
+      let l = length-drop n xs in
+      rw get_or-drop (h (n + k) d (omega arith) (omega arith))

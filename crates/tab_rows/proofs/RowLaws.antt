@@ -15,7 +15,7 @@ use Rattle.tab_keys.specs.declared.bounds.Bound.TheVariants.{At}
 use Rattle.tab_keys.specs.declared.keys.Key.{Key}
 use Rattle.tab_keys.proofs.OrderLaws.{Less_from_is_lt, key_lt_transitive, key_lt_asymmetric, same_key_between, same_key_equivalence, key_lt_alike_left, key_lt_alike_right, same_key_not_lt, key_lt_to_le, key_lt_across, key_cmp_heads, is_before_At, is_before_own_bound}
 use Rattle.tab_rows.specs.Rows.{RowView, AreRising, row_at, with_row, without_row, rows_from, rows_past, is_past}
-use Rattle.tab_rows.proofs.Filters.{filter_all, filter_none, find_none, All-from_find_none, filter_front, filter_back, find_behind, find-filter, filter-filter, find_below, find_above, length-filters, AllPairs-head, AllPairs-tail, AllPairs-append, All-split}
+use Rattle.tab_rows.proofs.Lists.{filter_all, filter_none, find_none, All-from_find_none, filter_front, filter_back, find_behind, find-filter, filter-filter, find_below, find_above, length-filters, AllPairs-head, AllPairs-tail, AllPairs-append, All-split}
 
 -- ---- keys that are apart
 

@@ -1,3 +1,5 @@
+//! Changes of one row.
+
 ghost use Rattle.std.specs.Prelude.{◌≡◌, IfOk};
 
 use crate::Row;
@@ -14,6 +16,7 @@ pub enum Change {
 }
 
 impl Change {
+    /// A copy in memory of its own.
     pub fn try_copy(&self, alloc: Global) -> Result<Change, Memory>
         ensures { IfOk result (λ copy. copy ≡ self.now) }
     {

@@ -1,3 +1,5 @@
+//! Cursors, which lend rows one after another and count them.
+
 ghost use Rattle.std.specs.Prelude.{◌≡◌, ◌+◌, [], ◌∷◌, MatchOption, IfNone};
 
 use crate::{Row, Steps};
@@ -32,6 +34,7 @@ impl<'a> Cursor<'a> {
         Some(row)
     }
 
+    /// A cursor over these rows.
     pub(crate) fn over(rest: &'a [Row]) -> Cursor<'a>
         ensures { result ≡ rest.now }
     {

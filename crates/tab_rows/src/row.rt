@@ -1,3 +1,5 @@
+//! Kept rows.
+
 ghost use Rattle.std.specs.Prelude.{◌≡◌, IfOk};
 
 use std::alloc::Global;
@@ -24,6 +26,7 @@ impl Model for Row {
 }
 
 impl Row {
+    /// A copy in memory of its own.
     pub fn try_copy(&self, alloc: Global) -> Result<Row, Memory>
         ensures { IfOk result (λ copy. copy ≡ self.now) }
     {

@@ -1,3 +1,6 @@
+//! Rows in the order of their keys: a sorted list, in which a look-up is a binary search, and a change moves the
+//! rows behind it.
+
 ghost use Rattle.std.specs.Prelude.{◌≡◌, ℕ, ◌<◌, ◌≤◌, ◌+◌, ◌↔◌, List, [], length, OnOk, MatchResult, None, IsTrue, drop, not};
 ghost use Rattle.std.specs.Option.{option_copied};
 ghost use Rattle.tab_keys.specs.Order.{key_cmp, key_lt};
@@ -38,6 +41,7 @@ impl Rows {
         }
     }
 
+    /// How many rows there are.
     pub fn len(&self) -> usize
         ensures len { result ≡ length self.now.rows }
         ensures rising { AreRising self.now.rows }
@@ -62,7 +66,8 @@ impl Rows {
         ensures spare { self.old.spare ≤ self.new.spare }
         ensures ok { OnOk result (more ≤ self.new.spare) }
     {
-        self.rows.reserve(more).map_err(|_| Memory)
+        self.rows.reserve(more)?;
+        Ok(())
     }
 
     /// Puts the row at its key, and gives the one that stood there.
@@ -112,7 +117,7 @@ impl Rows {
     }
 }
 
-// Where the key stands among rising rows, or else where it belongs.
+/// Where the key stands among rising rows, or else where it belongs.
 fn find_index(rows: &[Row], key: &Key) -> Result<usize, usize>
     requires { AreRising rows.now }
     ensures { MatchResult result (StandsAt rows.now key.now) (BelongsAt rows.now key.now) }
@@ -124,7 +129,7 @@ fn find_index(rows: &[Row], key: &Key) -> Result<usize, usize>
     )
 }
 
-// How many of the rising rows lie below the key.
+/// How many of the rising rows lie below the key.
 fn count_below(rows: &[Row], key: &Key) -> usize
     requires { AreRising rows.now }
     ensures within { result ≤ length rows.now }
@@ -137,7 +142,7 @@ fn count_below(rows: &[Row], key: &Key) -> usize
     )
 }
 
-// How many of the rising rows do not lie above every key of the table and partition.
+/// How many of the rising rows do not lie above every key of the table and partition.
 fn count_up_to(rows: &[Row], table: u64, pk: &KeyText) -> usize
     requires { AreRising rows.now }
     ensures within { result ≤ length rows.now }
@@ -150,7 +155,7 @@ fn count_up_to(rows: &[Row], table: u64, pk: &KeyText) -> usize
     )
 }
 
-// Whether the key lies above every key of the table and partition, whatever its row key.
+/// Whether the key lies above every key of the table and partition, whatever its row key.
 fn is_past(table: u64, pk: &KeyText, key: &Key) -> bool
     ensures test { result ≡ is_past table pk.now key.now }
     ensures above { IsTrue result ↔ ((rk : List ℕ) → IsTrue (key_lt (record { table = table; pk = pk.now; rk = rk }) key.now)) }

@@ -1,3 +1,5 @@
+//! How many rows cursors gave, a count that only proofs see.
+
 ghost use Rattle.std.specs.Prelude.{◌≡◌, ◌+◌, ◌<◌};
 
 use std::marker::Model;
@@ -32,6 +34,7 @@ impl<L: Ledger> Steps<L> {
         Steps { book, share }
     }
 
+    /// Counts one row more.
     pub(crate) fn tick(&mut self)
         ensures { self.new ≡ self.old + 1 }
     {
