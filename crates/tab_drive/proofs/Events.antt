@@ -6,8 +6,8 @@ use Rattle.tab_drive.specs.Schedule.{Fits, IsNoEvent, end_line, line_feed, longe
 use Rattle.tab_drive.specs.Lines.{IsInRange, line_text}
 use Rattle.tab_drive.specs.Reading.{HasNoMessage, IfTold, IsOpenLine, IsOpenMessage, ReadsLine, ReadsMessage, Took, TookPart}
 use Rattle.tab_drive.specs.Reading.IsWithinOne.{in_line, at_line_end, behind_call}
-use Rattle.tab_drive.specs.declared.lines.Line.{Line}
-use Rattle.tab_drive.specs.declared.lines.Line.TheVariants.{End as EndLine, Now as NowLine, Call as CallLine}
+use Rattle.tab_drive.specs.declared.lines.ScheduleLine.{ScheduleLine}
+use Rattle.tab_drive.specs.declared.lines.ScheduleLine.TheVariants.{End as EndLine, Now as NowLine, Call as CallLine}
 use Rattle.tab_drive.specs.declared.schedule.Scheduled.TheVariants.{Now, Call}
 use Rattle.tab_drive.proofs.OpenLines.{no_line_inside}
 use Rattle.tab_drive.proofs.Spellings.{no_event_no_line, no_event_no_message, no_event_other_line}
@@ -42,7 +42,7 @@ part_of_line old new took = record {
   consumed = took.consumed;
 }
 
-pub part_to_line_end : (old new : Option (List ℕ)) (line : List ℕ) → ReadsLine old new line → ((said : Line) → IsInRange said → line ≢ line_text said) → TookPart old new
+pub part_to_line_end : (old new : Option (List ℕ)) (line : List ℕ) → ReadsLine old new line → ((said : ScheduleLine) → IsInRange said → line ≢ line_text said) → TookPart old new
 part_to_line_end old new line read other = record {
   part = line ++ line_feed ∷ [];
   no_event = no_event_other_line line [] read.is_line other;
@@ -62,7 +62,7 @@ part_behind_call old mid new line size read is short took =
       consumed = subst (Consumes old new) parts (Consumes-trans old mid new (line ++ line_feed ∷ []) took.bytes read.consumed took.consumed);
     }
 
-pub refused_line : (old new : Option (List ℕ)) (line : List ℕ) → ReadsLine old new line → ((said : Line) → IsInRange said → line ≢ line_text said) → IfTold old IsNoEvent
+pub refused_line : (old new : Option (List ℕ)) (line : List ℕ) → ReadsLine old new line → ((said : ScheduleLine) → IsInRange said → line ≢ line_text said) → IfTold old IsNoEvent
 refused_line old new line read other =
     told_front old new (line ++ line_feed ∷ []) IsNoEvent read.consumed (λ rest. subst IsNoEvent (sym (append_assoc line (line_feed ∷ []) rest)) (no_event_other_line line rest read.is_line other))
 

@@ -11,7 +11,7 @@ use Rattle.tab_history.proofs.FollowedLaws.{followed_well}
 use Rattle.tab_history.proofs.StillLaws.{followed_still}
 use Rattle.tab_history.proofs.TickLaws.{ticks_rise, ticks_tell_rows}
 use Rattle.tab_history.proofs.NumberLaws.{numbers_rise, made_new, drops_hide}
-use Rattle.tab_drive.specs.Walk.{first_world, first_state}
+use Rattle.tab_drive.specs.RunStates.{first_world, first_state}
 
 is_world : IsWorld first_world
 is_world = record {

@@ -25,7 +25,7 @@ pub err_wrote : {T E : Type 0} (old new : Option (List ℕ)) (result : Result T 
 err_wrote old new (Ok x) text is front = cc
 err_wrote old new (Err e) text is front = front
 
--- the pieces are those before a place, the piece there, and the rest
+-- the pieces are those before an index, the piece there, and the rest
 pub pieces_at : {A : Type 0} (f : A → List ℕ) (pieces : List A) (i : ℕ) (d : A) → i < length pieces
     → flat_map f pieces ≡ flat_map f (take i pieces) ++ (f (get_or pieces i d) ++ flat_map f (drop (suc i) pieces))
 pieces_at {A = A} f pieces i d h =

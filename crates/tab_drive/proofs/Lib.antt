@@ -1,7 +1,7 @@
 mod FirstWorld
 mod RangeLemmas
 mod TableLemmas
-mod TablePlaces
+mod TableIndexes
 pub mod Decimals
 pub mod Decisions
 pub mod Events
@@ -13,11 +13,11 @@ pub mod OpenMessages
 pub mod Outcomes
 pub mod Spellings
 pub mod Told
-pub mod GroupPlaces
-pub mod WalkSteps
+pub mod GroupIndexes
+pub mod StateSteps
 pub mod Whole
 pub mod SessionSteps
-pub mod Turns
+pub mod ServedEvents
 pub mod Schedules
 pub mod Words
 pub mod Completeness

@@ -1,7 +1,7 @@
 -- Outcomes put together from their pieces.
 use Rattle.std.proofs.Common.{◌≡◌, ℕ, List, [], ◌∷◌, ◌++◌, length, refl, ap, ◌∙◌, append_assoc}
 use Rattle.std.specs.Prelude.{codes, decimal}
-use Rattle.tab_drive.specs.Walk.{reply_outcome, done_outcome}
+use Rattle.tab_drive.specs.RunStates.{reply_outcome, done_outcome}
 
 -- the line of a reply's length
 pub reply_line : (empty word counted line digits : List ℕ) (size : ℕ) → empty ≡ [] → word ≡ empty ++ codes "reply " → counted ≡ word ++ digits → digits ≡ decimal size → line ≡ counted ++ codes "\n"

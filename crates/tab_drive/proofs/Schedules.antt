@@ -13,44 +13,44 @@ use Rattle.tab_history.specs.Legality.{State, Legal, after_all}
 use Rattle.tab_history.specs.declared.entries.Entry.{Entry}
 use Rattle.tab_history.proofs.HistoryLaws.{after_all-append, Legal-append}
 use Rattle.tab_drive.specs.Schedule.{spelling, end_line}
-use Rattle.tab_drive.specs.Walk.{Walk, Exchange, first_walk, first_state, opening, Follows, walk_after, walk_after_all, bytes_of, entries_of, text_of}
+use Rattle.tab_drive.specs.RunStates.{RunState, Exchange, opened_state, first_state, opening, Follows, state_after, state_after_all, bytes_of, entries_of, text_of}
 use Rattle.tab_drive.specs.Sessions.{Keeps}
-use Rattle.tab_drive.specs.Runs.{Exchanged, Turned, TurnedIdle, StopsTurn, LeftOff, Stops}
+use Rattle.tab_drive.specs.Runs.{Exchanged, EventServed, NoneServed, StopsServing, LeftOff, Stops}
 use Rattle.tab_drive.specs.declared.session.Session.{Session}
-use Rattle.tab_drive.specs.declared.serving.Stop.{Stop}
-use Rattle.tab_drive.specs.declared.serving.Stop.TheVariants.{End, Refused, ReadFault, WriteFault, Memory}
+use Rattle.tab_drive.specs.declared.serving.RunStop.{RunStop}
+use Rattle.tab_drive.specs.declared.serving.RunStop.TheVariants.{End, Refused, ReadFault, WriteFault, Memory}
 
-Follows-append : (keys : Keys) (walk : Walk) (xs ys : List Exchange) → Follows keys walk xs → Follows keys (walk_after_all walk xs) ys → Follows keys walk (xs ++ ys)
-Follows-append keys walk [] ys first rest = rest
-Follows-append keys walk (x ∷ xs) ys first rest =
-    (first.0, first.1, first.2, Follows-append keys (walk_after walk x.event x.entries) xs ys first.3 rest)
+Follows-append : (keys : Keys) (state : RunState) (xs ys : List Exchange) → Follows keys state xs → Follows keys (state_after_all state xs) ys → Follows keys state (xs ++ ys)
+Follows-append keys state [] ys first rest = rest
+Follows-append keys state (x ∷ xs) ys first rest =
+    (first.0, first.1, first.2, Follows-append keys (state_after state x.event x.entries) xs ys first.3 rest)
 
-walk_after_all-append : (walk : Walk) (xs ys : List Exchange) → walk_after_all walk (xs ++ ys) ≡ walk_after_all (walk_after_all walk xs) ys
-walk_after_all-append walk [] ys = refl
-walk_after_all-append walk (x ∷ xs) ys = walk_after_all-append (walk_after walk x.event x.entries) xs ys
+state_after_all-append : (state : RunState) (xs ys : List Exchange) → state_after_all state (xs ++ ys) ≡ state_after_all (state_after_all state xs) ys
+state_after_all-append state [] ys = refl
+state_after_all-append state (x ∷ xs) ys = state_after_all-append (state_after state x.event x.entries) xs ys
 
-walk_after-past : (walk : Walk) (x : Exchange) → (walk_after walk x.event x.entries).past ≡ after_all walk.past x.entries
-unfolding walk_after
-walk_after-past walk x = refl
+state_after-past : (state : RunState) (x : Exchange) → (state_after state x.event x.entries).past ≡ after_all state.past x.entries
+unfolding state_after
+state_after-past state x = refl
 
-walk_after-number : (walk : Walk) (x : Exchange) → (walk_after walk x.event x.entries).number ≡ walk.number + 1
-unfolding walk_after
-walk_after-number walk x = refl
+state_after-number : (state : RunState) (x : Exchange) → (state_after state x.event x.entries).number ≡ state.number + 1
+unfolding state_after
+state_after-number state x = refl
 
-walk_after_all-past : (walk : Walk) (xs : List Exchange) → (walk_after_all walk xs).past ≡ after_all walk.past (entries_of xs)
-walk_after_all-past walk [] = refl
-walk_after_all-past walk (x ∷ xs) =
-    walk_after_all-past (walk_after walk x.event x.entries) xs
-    ∙ ap (λ (s : State). after_all s (entries_of xs)) (walk_after-past walk x)
-    ∙ sym (after_all-append walk.past x.entries (entries_of xs))
+state_after_all-past : (state : RunState) (xs : List Exchange) → (state_after_all state xs).past ≡ after_all state.past (entries_of xs)
+state_after_all-past state [] = refl
+state_after_all-past state (x ∷ xs) =
+    state_after_all-past (state_after state x.event x.entries) xs
+    ∙ ap (λ (s : State). after_all s (entries_of xs)) (state_after-past state x)
+    ∙ sym (after_all-append state.past x.entries (entries_of xs))
 
-first_walk-past : (moment : ℕ) → (first_walk moment).past ≡ after_all first_state (opening ∷ [])
-unfolding first_walk
-first_walk-past moment = refl
+opened_state-past : (moment : ℕ) → (opened_state moment).past ≡ after_all first_state (opening ∷ [])
+unfolding opened_state
+opened_state-past moment = refl
 
--- the walk stands where the history ended
-past_is : (moment : ℕ) (xs : List Exchange) → (walk_after_all (first_walk moment) xs).past ≡ after_all first_state (opening ∷ entries_of xs)
-past_is moment xs = walk_after_all-past (first_walk moment) xs ∙ ap (λ (s : State). after_all s (entries_of xs)) (first_walk-past moment)
+-- the state is that where the history ended
+past_is : (moment : ℕ) (xs : List Exchange) → (state_after_all (opened_state moment) xs).past ≡ after_all first_state (opening ∷ entries_of xs)
+past_is moment xs = state_after_all-past (opened_state moment) xs ∙ ap (λ (s : State). after_all s (entries_of xs)) (opened_state-past moment)
 
 bytes_of-push : (xs : List Exchange) (x : Exchange) → bytes_of (xs ++ x ∷ []) ≡ bytes_of xs ++ spelling x.event
 bytes_of-push xs x = flat_map-append (λ (y : Exchange). spelling y.event) xs (x ∷ []) ∙ ap (λ (b : List ℕ). bytes_of xs ++ b) (append-nil (spelling x.event))
@@ -64,10 +64,10 @@ text_of-push xs x = flat_map-append (λ (y : Exchange). y.text) xs (x ∷ []) �
 -- what a run has come to that has not stopped
 pub record Going (keys : Keys) (moment : ℕ) (left_before left taken_before taken : Option (List ℕ)) (session : Session) (done : ℕ) : Type 0 where
   pub exchanges : List Exchange
-  pub follows : Follows keys (first_walk moment) exchanges
+  pub follows : Follows keys (opened_state moment) exchanges
   pub history : session.history.items ≡ opening ∷ entries_of exchanges
   pub legal : Legal first_state session.history.items
-  pub keeps : Keeps session (walk_after_all (first_walk moment) exchanges)
+  pub keeps : Keeps session (state_after_all (opened_state moment) exchanges)
   pub read : Consumes left_before left (bytes_of exchanges)
   pub written : Appends taken_before taken (text_of exchanges)
   pub counted : done ≡ length exchanges
@@ -75,40 +75,40 @@ pub record Going (keys : Keys) (moment : ℕ) (left_before left taken_before tak
 
 -- the history with one more exchange
 history_push : (keys : Keys) (moment : ℕ) (xs : List Exchange) (x : Exchange) (old new : Session) → old.history.items ≡ opening ∷ entries_of xs
-    → Exchanged keys (walk_after_all (first_walk moment) xs) x old new → new.history.items ≡ opening ∷ entries_of (xs ++ x ∷ [])
+    → Exchanged keys (state_after_all (opened_state moment) xs) x old new → new.history.items ≡ opening ∷ entries_of (xs ++ x ∷ [])
 history_push keys moment xs x old new before more =
     more.history ∙ ap (λ (h : List Entry). h ++ x.entries) before ∙ ap (λ (h : List Entry). opening ∷ h) (sym (entries_of-push xs x))
 
 legal_push : (keys : Keys) (moment : ℕ) (xs : List Exchange) (x : Exchange) (old new : Session) → old.history.items ≡ opening ∷ entries_of xs → Legal first_state old.history.items
-    → Exchanged keys (walk_after_all (first_walk moment) xs) x old new → Legal first_state new.history.items
+    → Exchanged keys (state_after_all (opened_state moment) xs) x old new → Legal first_state new.history.items
 legal_push keys moment xs x old new before legal more =
     subst (λ (h : List Entry). Legal first_state h) (sym more.history)
     (Legal-append first_state old.history.items x.entries legal
     (subst (λ (s : State). Legal s x.entries) (past_is moment xs ∙ ap (λ (h : List Entry). after_all first_state h) (sym before)) more.legal))
 
-follows_push : (keys : Keys) (moment : ℕ) (xs : List Exchange) (x : Exchange) (old new : Session) → Follows keys (first_walk moment) xs
-    → Exchanged keys (walk_after_all (first_walk moment) xs) x old new → Follows keys (first_walk moment) (xs ++ x ∷ [])
+follows_push : (keys : Keys) (moment : ℕ) (xs : List Exchange) (x : Exchange) (old new : Session) → Follows keys (opened_state moment) xs
+    → Exchanged keys (state_after_all (opened_state moment) xs) x old new → Follows keys (opened_state moment) (xs ++ x ∷ [])
 follows_push keys moment xs x old new before more =
-    Follows-append keys (first_walk moment) xs (x ∷ []) before (more.fits, more.numbered, more.happens, tt)
+    Follows-append keys (opened_state moment) xs (x ∷ []) before (more.fits, more.numbered, more.happens, tt)
 
 -- a run that goes on by one exchange
 pub going_on : (keys : Keys) (moment : ℕ) (l0 l1 l2 t0 t1 t2 : Option (List ℕ)) (old new : Session) (done : ℕ) → (going : Going keys moment l0 l1 t0 t1 old done)
-    → Turned keys (walk_after_all (first_walk moment) going.exchanges) (record { left_before = l1; left = l2; taken_before = t1; taken = t2 }) old new
+    → EventServed keys (state_after_all (opened_state moment) going.exchanges) (record { left_before = l1; left = l2; taken_before = t1; taken = t2 }) old new
     → Going keys moment l0 l2 t0 t2 new (done + 1)
-going_on keys moment l0 l1 l2 t0 t1 t2 old new done going turned =
+going_on keys moment l0 l1 l2 t0 t1 t2 old new done going served =
     let xs = going.exchanges in
-    let x = turned.exchange in
-    let keeps : Keeps new (walk_after_all (first_walk moment) (xs ++ x ∷ [])) = rw (walk_after_all-append (first_walk moment) xs (x ∷ [])) turned.exchanged.keeps in
+    let x = served.exchange in
+    let keeps : Keeps new (state_after_all (opened_state moment) (xs ++ x ∷ [])) = rw (state_after_all-append (opened_state moment) xs (x ∷ [])) served.exchanged.keeps in
     record {
       exchanges = xs ++ x ∷ [];
-      follows = follows_push keys moment xs x old new going.follows turned.exchanged;
-      history = history_push keys moment xs x old new going.history turned.exchanged;
-      legal = legal_push keys moment xs x old new going.history going.legal turned.exchanged;
+      follows = follows_push keys moment xs x old new going.follows served.exchanged;
+      history = history_push keys moment xs x old new going.history served.exchanged;
+      legal = legal_push keys moment xs x old new going.history going.legal served.exchanged;
       keeps = keeps;
-      read = rw (bytes_of-push xs x) (Consumes-trans l0 l1 l2 (bytes_of xs) (spelling x.event) going.read turned.read);
-      written = rw (text_of-push xs x) (Appends-trans t0 t1 t2 (text_of xs) x.text going.written turned.written);
+      read = rw (bytes_of-push xs x) (Consumes-trans l0 l1 l2 (bytes_of xs) (spelling x.event) going.read served.read);
+      written = rw (text_of-push xs x) (Appends-trans t0 t1 t2 (text_of xs) x.text going.written served.written);
       counted = let n = length-append xs (x ∷ []) in let c : done ≡ length xs = going.counted in omega (arith, n, c);
-      numbered = turned.exchanged.keeps.number ∙ walk_after-number (walk_after_all (first_walk moment) xs) x ∙ ap (λ (n : ℕ). n + 1) (sym going.keeps.number ∙ going.numbered);
+      numbered = served.exchanged.keeps.number ∙ state_after-number (state_after_all (opened_state moment) xs) x ∙ ap (λ (n : ℕ). n + 1) (sym going.keeps.number ∙ going.numbered);
     }
 
 -- what was written stays where nothing was
@@ -116,7 +116,7 @@ written_still : (t0 t1 t2 : Option (List ℕ)) (text : List ℕ) → t2 ≡ t1 �
 written_still t0 t1 t2 text same written = subst (λ (t : Option (List ℕ)). Appends t0 t text) (sym same) written
 
 left_off : (P : List ℕ → Type 0) (keys : Keys) (moment : ℕ) (l0 l1 l2 t0 t1 t2 : Option (List ℕ)) (old new : Session) (done : ℕ) → Going keys moment l0 l1 t0 t1 old done
-    → TurnedIdle P (record { left_before = l1; left = l2; taken_before = t1; taken = t2 }) old new
+    → NoneServed P (record { left_before = l1; left = l2; taken_before = t1; taken = t2 }) old new
     → LeftOff P keys moment (record { left_before = l0; left = l2; taken_before = t0; taken = t2 }) new.history.items done
 left_off P keys moment l0 l1 l2 t0 t1 t2 old new done going idle = record {
   exchanges = going.exchanges;
@@ -129,8 +129,8 @@ left_off P keys moment l0 l1 l2 t0 t1 t2 old new done going idle = record {
 }
 
 -- a run that stops
-pub stopped : (keys : Keys) (moment : ℕ) (l0 l1 l2 t0 t1 t2 : Option (List ℕ)) (old new : Session) (done : ℕ) (stop : Stop) → (going : Going keys moment l0 l1 t0 t1 old done)
-    → StopsTurn keys (walk_after_all (first_walk moment) going.exchanges) (record { left_before = l1; left = l2; taken_before = t1; taken = t2 }) old new stop
+pub stopped : (keys : Keys) (moment : ℕ) (l0 l1 l2 t0 t1 t2 : Option (List ℕ)) (old new : Session) (done : ℕ) (stop : RunStop) → (going : Going keys moment l0 l1 t0 t1 old done)
+    → StopsServing keys (state_after_all (opened_state moment) going.exchanges) (record { left_before = l1; left = l2; taken_before = t1; taken = t2 }) old new stop
     → Stops keys moment (record { left_before = l0; left = l2; taken_before = t0; taken = t2 }) new.history.items done stop
 stopped keys moment l0 l1 l2 t0 t1 t2 old new done End going halts = record {
   exchanges = going.exchanges;
@@ -171,8 +171,8 @@ legal_still : (old new : Session) → new.history.items ≡ old.history.items �
 legal_still old new same legal = subst (λ (h : List Entry). Legal first_state h) (sym same) legal
 
 -- its history is legal
-pub stopped_legal : (keys : Keys) (moment : ℕ) (l0 l1 l2 t0 t1 t2 : Option (List ℕ)) (old new : Session) (done : ℕ) (stop : Stop) → (going : Going keys moment l0 l1 t0 t1 old done)
-    → StopsTurn keys (walk_after_all (first_walk moment) going.exchanges) (record { left_before = l1; left = l2; taken_before = t1; taken = t2 }) old new stop
+pub stopped_legal : (keys : Keys) (moment : ℕ) (l0 l1 l2 t0 t1 t2 : Option (List ℕ)) (old new : Session) (done : ℕ) (stop : RunStop) → (going : Going keys moment l0 l1 t0 t1 old done)
+    → StopsServing keys (state_after_all (opened_state moment) going.exchanges) (record { left_before = l1; left = l2; taken_before = t1; taken = t2 }) old new stop
     → Legal first_state new.history.items
 stopped_legal keys moment l0 l1 l2 t0 t1 t2 old new done End going halts = legal_still old new halts.history going.legal
 stopped_legal keys moment l0 l1 l2 t0 t1 t2 old new done Refused going halts = legal_still old new halts.1.history going.legal
@@ -181,8 +181,8 @@ stopped_legal keys moment l0 l1 l2 t0 t1 t2 old new done WriteFault going halts 
 stopped_legal keys moment l0 l1 l2 t0 t1 t2 old new done Memory going halts = legal_still old new halts.history going.legal
 
 -- a run begins
-pub going_first : (keys : Keys) (moment : ℕ) (l t : Option (List ℕ)) (session : Session) → Keeps session (first_walk moment) → session.history.items ≡ opening ∷ [] → Going keys moment l l t t session 0
-unfolding first_walk
+pub going_first : (keys : Keys) (moment : ℕ) (l t : Option (List ℕ)) (session : Session) → Keeps session (opened_state moment) → session.history.items ≡ opening ∷ [] → Going keys moment l l t t session 0
+unfolding opened_state
 going_first keys moment l t session keeps history = record {
   exchanges = [];
   follows = tt;

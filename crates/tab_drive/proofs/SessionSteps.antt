@@ -1,4 +1,4 @@
--- What a session's steps add to a walk.
+-- What a session's steps add to a run's state.
 use Rattle.std.proofs.Common.{◌≡◌, ℕ, ◌+◌, List, [], ◌++◌, refl, sym, ap, ◌∙◌, subst, inl, inr, append-nil, Bool, true, false}
 use Rattle.std.specs.Prelude.{◌⊎◌, Option, Some, None, Ok, Err}
 use Rattle.tab_auth.specs.declared.signatures.Keys.{Keys}
@@ -20,27 +20,27 @@ use Rattle.tab_service.specs.declared.forms.PartForm.{PartForm}
 use Rattle.tab_service.specs.declared.forms.Request.{Request}
 use Rattle.tab_service.specs.Decisions.{IsDecision}
 use Rattle.tab_service.specs.Refusals.{http_fault}
-use Rattle.tab_service.specs.declared.decisions.Decided.{Decided as Outcome}
+use Rattle.tab_service.specs.declared.decisions.Decided.{Decided}
 use Rattle.tab_service.specs.declared.decisions.Decided.TheVariants.{Go, No}
 use Rattle.tab_service.specs.Forms.{HasParts, IsFormOf, IsInForm}
 use Rattle.tab_service.specs.Replies.{SuitsAsk, Suits, reply_text, denied_reply, memory_fault}
 use Rattle.tab_drive.specs.Messages.{AreRead, ComeTo}
 use Rattle.tab_drive.specs.Messages.ComeTo.{as_message, as_none}
-use Rattle.tab_drive.specs.Walk.{Walk, group_name, walk_after, done_outcome, reply_outcome}
+use Rattle.tab_drive.specs.RunStates.{RunState, group_name, state_after, done_outcome, reply_outcome}
 use Rattle.tab_drive.specs.Stores.{Held, held_by, held_then, denied, found_or_not, tick_at, OnTable, Gets, Pages, Lacks, Makes, IsRefusedGroup, LacksMoment, MayLack, table_for, IsDecided}
 use Rattle.tab_drive.specs.Sessions.{held_in, Keeps, look_up, entries_by, entries_for, Stepped, Replied, RefusedAt}
 use Rattle.tab_drive.specs.declared.look_ups.LookUp.{LookUp}
 use Rattle.tab_drive.specs.declared.schedule.Scheduled.TheVariants.{Now, Call}
 use Rattle.tab_drive.specs.declared.session.Session.{Session}
-use Rattle.tab_drive.specs.declared.stores.Decided.{Decided}
+use Rattle.tab_drive.specs.declared.stores.StoreAnswer.{StoreAnswer}
 use Rattle.tab_drive.specs.declared.stores.Store.{Store}
-use Rattle.tab_drive.proofs.GroupPlaces.{suits_refusal}
-use Rattle.tab_drive.proofs.WalkSteps.{adds, serving_after, holding_after}
+use Rattle.tab_drive.proofs.GroupIndexes.{suits_refusal}
+use Rattle.tab_drive.proofs.StateSteps.{adds, serving_after, holding_after}
 
 -- ---- a decided request gets a reply of its kind
 
-suits_as : (batch : Bool) (what : Ask) (decided same : Decided) → decided ≡ same → SuitsAsk batch what same.reply → SuitsAsk batch what decided.reply
-suits_as batch what decided same is suits = subst (λ (d : Decided). SuitsAsk batch what d.reply) (sym is) suits
+suits_as : (batch : Bool) (what : Ask) (decided same : StoreAnswer) → decided ≡ same → SuitsAsk batch what same.reply → SuitsAsk batch what decided.reply
+suits_as batch what decided same is suits = subst (λ (d : StoreAnswer). SuitsAsk batch what d.reply) (sym is) suits
 
 -- a batch asks for a change
 create_is_single : (batch : Bool) (name : List ℕ) (json : JsonForm) (parts : List PartForm) → HasParts batch (Creating name) json parts → batch ≡ false
@@ -55,20 +55,20 @@ suits_found : (batch : Bool) (name pk rk : List ℕ) (found : Option RowView) �
 suits_found batch name pk rk (Some row) single = tt
 suits_found batch name pk rk None single = single
 
-suits_get : (batch : Bool) (held : Held) (name pk rk : List ℕ) (decided : Decided) (table : Option ℕ) → batch ≡ false
+suits_get : (batch : Bool) (held : Held) (name pk rk : List ℕ) (decided : StoreAnswer) (table : Option ℕ) → batch ≡ false
     → OnTable table (λ number. Gets held (record { table = number; pk = pk; rk = rk }) decided ⊎ Lacks decided) decided → SuitsAsk batch (Getting name pk rk) decided.reply
 suits_get batch held name pk rk decided None single none_is = suits_as batch (Getting name pk rk) decided _ none_is tt
 suits_get batch held name pk rk decided (Some table) single (inl gets) =
     suits_as batch (Getting name pk rk) decided _ gets (suits_found batch name pk rk (row_at held.rows (record { table = table; pk = pk; rk = rk })) single)
 suits_get batch held name pk rk decided (Some table) single (inr lacks) = suits_as batch (Getting name pk rk) decided _ lacks tt
 
-suits_page : (batch : Bool) (held : Held) (name : List ℕ) (options : Options) (decided : Decided) (table : Option ℕ)
+suits_page : (batch : Bool) (held : Held) (name : List ℕ) (options : Options) (decided : StoreAnswer) (table : Option ℕ)
     → OnTable table (λ number. Pages held number options decided ⊎ Lacks decided) decided → SuitsAsk batch (Paging name options) decided.reply
 suits_page batch held name options decided None none_is = suits_as batch (Paging name options) decided _ none_is tt
 suits_page batch held name options decided (Some table) (inl pages) = suits_as batch (Paging name options) decided _ pages tt
 suits_page batch held name options decided (Some table) (inr lacks) = suits_as batch (Paging name options) decided _ lacks tt
 
-suits_change : (batch : Bool) (held : Held) (moment : ℕ) (group : List ItemView) (decided : Decided) (table : Option ℕ)
+suits_change : (batch : Bool) (held : Held) (moment : ℕ) (group : List ItemView) (decided : StoreAnswer) (table : Option ℕ)
     → OnTable table
     (λ number. Makes held moment number group decided ⊎ (IsRefusedGroup held moment number group decided ⊎ (LacksMoment held moment decided ⊎ Lacks decided))) decided
     → SuitsAsk batch (Writing group) decided.reply
@@ -79,7 +79,7 @@ suits_change batch held moment group decided (Some table) (inr (inl refuses)) =
 suits_change batch held moment group decided (Some table) (inr (inr (inl spends))) = suits_as batch (Writing group) decided _ spends.is tt
 suits_change batch held moment group decided (Some table) (inr (inr (inr lacks))) = suits_as batch (Writing group) decided _ lacks tt
 
-suits_ask : (form : Form) (held : Held) (moment : ℕ) (what : Ask) (decided : Decided) → IsFormOf what form → IsDecided held moment what decided → SuitsAsk form.batch what decided.reply
+suits_ask : (form : Form) (held : Held) (moment : ℕ) (what : Ask) (decided : StoreAnswer) → IsFormOf what form → IsDecided held moment what decided → SuitsAsk form.batch what decided.reply
 suits_ask form held moment (Creating name) decided form_is (inl creates) = suits_as form.batch (Creating name) decided _ creates.is tt
 suits_ask form held moment (Creating name) decided form_is (inr (inl finds)) =
     suits_as form.batch (Creating name) decided _ finds.is (create_is_single form.batch name form.json form.parts form_is)
@@ -95,7 +95,7 @@ suits_ask form held moment (Getting name pk rk) decided form_is comes =
 suits_ask form held moment (Paging name options) decided form_is comes = suits_page form.batch held name options decided (table_of held.names name) comes
 suits_ask form held moment (Writing group) decided form_is comes = suits_change form.batch held moment group decided (table_of held.names (group_name group)) comes
 
-pub suits_decided : (held : Held) (moment : ℕ) (request : Request) (decided : Decided) → IsInForm request.form.account request → IsDecided held moment request.ask decided → Suits request decided.reply
+pub suits_decided : (held : Held) (moment : ℕ) (request : Request) (decided : StoreAnswer) → IsInForm request.form.account request → IsDecided held moment request.ask decided → Suits request decided.reply
 suits_decided held moment request decided in_form comes =
     record { form = in_form.suits; suits = suits_ask request.form held moment request.ask decided in_form.suits comes }
 
@@ -137,12 +137,12 @@ own_form account request in_form = subst (λ (a : List ℕ). IsInForm a request)
 
 -- ---- messages
 
--- a message that was read comes to its decision where the walk stands
-pub comes_to : (keys : Keys) (moment now : ℕ) (bytes : List ℕ) (message : Message) (found decided : Outcome) → moment ≡ now → AreRead bytes (Ok message)
+-- a message that was read comes to its decision in the state
+pub comes_to : (keys : Keys) (moment now : ℕ) (bytes : List ℕ) (message : Message) (found decided : Decided) → moment ≡ now → AreRead bytes (Ok message)
     → IsDecision keys moment message found → found ≡ decided → ComeTo keys now bytes decided
 comes_to keys moment now bytes message found decided same read is given =
     as_message message read
-    (subst (λ (m : ℕ). IsDecision keys m message decided) same (subst (λ (d : Outcome). IsDecision keys moment message d) given is))
+    (subst (λ (m : ℕ). IsDecision keys m message decided) same (subst (λ (d : Decided). IsDecision keys moment message d) given is))
 
 no_fault : (refused : HttpRefused) (reply : List ℕ) → refused ≡ NoRoom → http_fault refused ≡ Some reply → ⊥
 unfolding http_fault
@@ -156,15 +156,15 @@ refused_comes keys now bytes refused reply (inr read) fault = as_none refused re
 
 -- ---- steps
 
--- an answered message is a step of the walk
-pub replied_steps : (keys : Keys) (message : List ℕ) (walk : Walk) (old new : Session) (request : Request) (text : List ℕ)
-    → Keeps old walk → ComeTo keys walk.moment message (Go request) → Replied old new request text → Stepped keys walk (Call message) text old new
-unfolding walk_after
-replied_steps keys message walk old new request text keeps comes replied =
-    let over : IsDecided (held_in walk) old.moment request.ask replied.decided = subst (λ (h : Held). IsDecided h old.moment request.ask replied.decided) keeps.held replied.comes in
-    let decided : IsDecided (held_in walk) walk.moment request.ask replied.decided = subst (λ (m : ℕ). IsDecided (held_in walk) m request.ask replied.decided) keeps.moment over in
-    let added = adds walk request.ask replied.decided keeps.serving decided in
-    let entries = entries_for walk.number walk.moment (held_in walk) request.ask replied.decided.reply in
+-- an answered message is a step of the run
+pub replied_steps : (keys : Keys) (message : List ℕ) (state : RunState) (old new : Session) (request : Request) (text : List ℕ)
+    → Keeps old state → ComeTo keys state.moment message (Go request) → Replied old new request text → Stepped keys state (Call message) text old new
+unfolding state_after
+replied_steps keys message state old new request text keeps comes replied =
+    let over : IsDecided (held_in state) old.moment request.ask replied.decided = subst (λ (h : Held). IsDecided h old.moment request.ask replied.decided) keeps.held replied.comes in
+    let decided : IsDecided (held_in state) state.moment request.ask replied.decided = subst (λ (m : ℕ). IsDecided (held_in state) m request.ask replied.decided) keeps.moment over in
+    let added = adds state request.ask replied.decided keeps.serving decided in
+    let entries = entries_for state.number state.moment (held_in state) request.ask replied.decided.reply in
     record {
       entries = entries;
       happens = inl (record {
@@ -181,20 +181,20 @@ replied_steps keys message walk old new request text keeps comes replied =
       keeps = record {
         moment = replied.moment ∙ keeps.moment;
         number = replied.number ∙ ap (λ (n : ℕ). n + 1) keeps.number;
-        held = replied.held ∙ ap (λ (h : Held). held_then h replied.decided.effect) keeps.held ∙ sym (holding_after walk (Call message) request.ask replied.decided entries added);
-        serving = serving_after walk (Call message) request.ask replied.decided entries added;
+        held = replied.held ∙ ap (λ (h : Held). held_then h replied.decided.effect) keeps.held ∙ sym (holding_after state (Call message) request.ask replied.decided entries added);
+        serving = serving_after state (Call message) request.ask replied.decided entries added;
       };
       history = replied.history ∙ ap (λ (n : ℕ). old.history.items ++ entries_for n old.moment (held_by old.store) request.ask replied.decided.reply) keeps.number
-          ∙ ap (λ (m : ℕ). old.history.items ++ entries_for walk.number m (held_by old.store) request.ask replied.decided.reply) keeps.moment
-          ∙ ap (λ (h : Held). old.history.items ++ entries_for walk.number walk.moment h request.ask replied.decided.reply) keeps.held;
+          ∙ ap (λ (m : ℕ). old.history.items ++ entries_for state.number m (held_by old.store) request.ask replied.decided.reply) keeps.moment
+          ∙ ap (λ (h : Held). old.history.items ++ entries_for state.number state.moment h request.ask replied.decided.reply) keeps.held;
     }
 
--- an event that sets the moment is a step of the walk
-pub moved_steps : (keys : Keys) (walk : Walk) (old new : Session) (moment : ℕ) → Keeps old walk
+-- an event that sets the moment is a step of the run
+pub moved_steps : (keys : Keys) (state : RunState) (old new : Session) (moment : ℕ) → Keeps old state
     → new.moment ≡ moment → new.number ≡ old.number + 1 → held_by new.store ≡ held_by old.store → new.history.items ≡ old.history.items
-    → Stepped keys walk (Now moment) done_outcome old new
-unfolding walk_after
-moved_steps keys walk old new moment keeps at number held history = record {
+    → Stepped keys state (Now moment) done_outcome old new
+unfolding state_after
+moved_steps keys state old new moment keeps at number held history = record {
   entries = [];
   happens = (refl, refl);
   legal = tt;
@@ -207,11 +207,11 @@ moved_steps keys walk old new moment keeps at number held history = record {
   history = history ∙ sym (append-nil old.history.items);
 }
 
--- a refused message is a step of the walk
-pub refused_steps : (keys : Keys) (message reply text : List ℕ) (walk : Walk) (old new : Session) → Keeps old walk → ComeTo keys walk.moment message (No reply)
-    → text ≡ reply_outcome reply → RefusedAt old new → Stepped keys walk (Call message) text old new
-unfolding walk_after
-refused_steps keys message reply text walk old new keeps comes written refused = record {
+-- a refused message is a step of the run
+pub refused_steps : (keys : Keys) (message reply text : List ℕ) (state : RunState) (old new : Session) → Keeps old state → ComeTo keys state.moment message (No reply)
+    → text ≡ reply_outcome reply → RefusedAt old new → Stepped keys state (Call message) text old new
+unfolding state_after
+refused_steps keys message reply text state old new keeps comes written refused = record {
   entries = [];
   happens = inr (record { reply = reply; comes = comes; none = refl; written = written });
   legal = tt;
@@ -225,7 +225,7 @@ refused_steps keys message reply text walk old new keeps comes written refused =
 }
 
 -- a request that is recorded over a store that holds what it held
-pub replied_from : (old new : Session) (store : Store) (items : List Entry) (look : Option LookUp) (request : Request) (text : List ℕ) (decided : Decided)
+pub replied_from : (old new : Session) (store : Store) (items : List Entry) (look : Option LookUp) (request : Request) (text : List ℕ) (decided : StoreAnswer)
     → items ≡ old.history.items → held_by store ≡ held_by old.store → look ≡ look_up old.store.tables.names request.ask
     → IsDecided (held_by old.store) old.moment request.ask decided → text ≡ reply_outcome (reply_text request decided.reply)
     → new.history.items ≡ items ++ entries_by look old.number old.moment store.next_table request.ask decided.reply

@@ -3,14 +3,14 @@ use Rattle.std.proofs.Common.{◌≡◌, ◌≢◌, ℕ, ◌<◌, ◌≤◌, Lis
 use Rattle.tab_drive.specs.Schedule.{Fits, IsNoEvent, end_line, line_feed, longest_message, spelling}
 use Rattle.tab_drive.specs.Lines.{IsLine, IsInRange, line_text}
 use Rattle.tab_drive.specs.Reading.{HasNoLine, HasNoMessage}
-use Rattle.tab_drive.specs.declared.lines.Line.{Line}
-use Rattle.tab_drive.specs.declared.lines.Line.TheVariants.{End as EndLine, Now as NowLine, Call as CallLine}
+use Rattle.tab_drive.specs.declared.lines.ScheduleLine.{ScheduleLine}
+use Rattle.tab_drive.specs.declared.lines.ScheduleLine.TheVariants.{End as EndLine, Now as NowLine, Call as CallLine}
 use Rattle.tab_drive.specs.declared.schedule.Scheduled.{Scheduled}
 use Rattle.tab_drive.specs.declared.schedule.Scheduled.TheVariants.{Now, Call}
 use Rattle.tab_drive.proofs.LineTexts.{IsLine-line_text, length-line_text, line_text_injective, split_length, split_line}
 
 -- what the event's line says
-abbrev line_for : Scheduled → Line
+abbrev line_for : Scheduled → ScheduleLine
 line_for (Now moment) = NowLine moment
 line_for (Call message) = CallLine (length message)
 
@@ -33,7 +33,7 @@ unfolding end_line
 ended rest = refl
 
 -- bytes whose line is an event's begin with its line, and go on with what it calls
-same_line : (event : Scheduled) (line : Line) (rest more : List ℕ) → Fits event → IsInRange line → line_text line ++ line_feed ∷ rest ≡ spelling event ++ more
+same_line : (event : Scheduled) (line : ScheduleLine) (rest more : List ℕ) → Fits event → IsInRange line → line_text line ++ line_feed ∷ rest ≡ spelling event ++ more
     → (line ≡ line_for event) × (rest ≡ body_for event ++ more)
 same_line event line rest more fits range is =
     let parts = split_line (line_text line) (line_text (line_for event)) rest (body_for event ++ more)
@@ -49,7 +49,7 @@ no_event_no_line bytes no_line = record {
 }
 
 -- none where the line says nothing
-pub no_event_other_line : (line rest : List ℕ) → IsLine line → ((parsed : Line) → IsInRange parsed → line ≢ line_text parsed) → IsNoEvent (line ++ line_feed ∷ rest)
+pub no_event_other_line : (line rest : List ℕ) → IsLine line → ((parsed : ScheduleLine) → IsInRange parsed → line ≢ line_text parsed) → IsNoEvent (line ++ line_feed ∷ rest)
 no_event_other_line line rest is_line other = record {
   no_event = λ event more fits is.
       other (line_for event) (in_range event fits)

@@ -6,8 +6,8 @@ use Rattle.base64.specs.GeneralPurpose.{decoded_of}
 use Rattle.tab_auth.specs.declared.signatures.Keys.{Keys}
 use Rattle.tab_history.specs.declared.entries.Entry.{Entry}
 use Rattle.tab_drive.specs.Runs.{Traffic, Stops, TookLine, refused_line, read_fault_line, memory_line}
-use Rattle.tab_drive.specs.declared.serving.Stop.{Stop}
-use Rattle.tab_drive.specs.declared.serving.Stop.TheVariants.{End, Refused, ReadFault, WriteFault, Memory}
+use Rattle.tab_drive.specs.declared.serving.RunStop.{RunStop}
+use Rattle.tab_drive.specs.declared.serving.RunStop.TheVariants.{End, Refused, ReadFault, WriteFault, Memory}
 
 -- a lower-case ASCII letter or a digit
 abbrev pub is_account_byte : ℕ → Bool
@@ -39,7 +39,7 @@ abbrev pub IsNoCommand : List (List ℕ) → Type 0
 IsNoCommand words = (keys : Keys) → IsDrive words keys → ⊥
 
 -- the exit status of a schedule that stopped so
-abbrev pub status_of : Stop → ℕ
+abbrev pub status_of : RunStop → ℕ
 status_of End = 0
 status_of Refused = 2
 status_of ReadFault = 3
@@ -51,7 +51,7 @@ abbrev pub exit_statuses : List ℕ
 exit_statuses = 0 ∷ 1 ∷ 2 ∷ 3 ∷ 4 ∷ 7 ∷ []
 
 -- its last line
-abbrev pub line_of : Stop → ℕ → List ℕ
+abbrev pub line_of : RunStop → ℕ → List ℕ
 line_of End done = []
 line_of Refused done = refused_line (done + 1)
 line_of ReadFault done = read_fault_line
@@ -60,7 +60,7 @@ line_of Memory done = memory_line
 
 -- a schedule was served up to its stop, and its last line was written
 pub record Drove (keys : Keys) (moment : ℕ) (traffic : Traffic) (faults_before faults : ℕ) (status : ℕ) (history : List Entry) (done : ℕ) : Type 0 where
-  pub stop : Stop
+  pub stop : RunStop
   pub status_is : status ≡ status_of stop
   pub middle : Option (List ℕ)
   pub stops : Stops keys moment (record traffic { taken = middle }) history done stop

@@ -2,7 +2,7 @@
 use Rattle.std.specs.Prelude.{◌≡◌, ℕ, ◌<◌, List, ◌++◌, length, flat_map}
 use Rattle.std.specs.List.{AllByRecursion}
 use Rattle.tab_drive.specs.Schedule.{spelling, Fits, end_line}
-use Rattle.tab_drive.specs.Walk.{last_number}
+use Rattle.tab_drive.specs.RunStates.{last_number}
 use Rattle.tab_drive.specs.declared.schedule.Scheduled.{Scheduled}
 
 -- the bytes begin with a whole schedule: these events, one after another, and the last line

@@ -1,8 +1,8 @@
 -- The lines of a schedule, without the line feed that ends each.
 use Rattle.std.specs.Prelude.{◌≢◌, ℕ, ◌<◌, ◌≤◌, ◌^◌, List, [], ◌∷◌, ◌++◌, codes, decimal}
 use Rattle.tab_drive.specs.Schedule.{line_feed, longest_message}
-use Rattle.tab_drive.specs.declared.lines.Line.{Line}
-use Rattle.tab_drive.specs.declared.lines.Line.TheVariants.{End, Now, Call}
+use Rattle.tab_drive.specs.declared.lines.ScheduleLine.{ScheduleLine}
+use Rattle.tab_drive.specs.declared.lines.ScheduleLine.TheVariants.{End, Now, Call}
 
 -- the longest line that a schedule may have
 abbrev pub longest_line : ℕ
@@ -14,13 +14,13 @@ IsLine [] = Unit {0}
 IsLine (byte ∷ bytes) = (byte ≢ line_feed) × IsLine bytes
 
 -- the bytes of a line
-abbrev pub line_text : Line → List ℕ
+abbrev pub line_text : ScheduleLine → List ℕ
 line_text End = codes "end"
 line_text (Now moment) = codes "now " ++ decimal moment
 line_text (Call size) = codes "call " ++ decimal size
 
 -- the line's number is within its limit
-abbrev pub IsInRange : Line → Type 0
+abbrev pub IsInRange : ScheduleLine → Type 0
 IsInRange End = Unit {0}
 IsInRange (Now moment) = moment < 2 ^ 64
 IsInRange (Call size) = size ≤ longest_message

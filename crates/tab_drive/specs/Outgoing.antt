@@ -2,7 +2,7 @@
 use Rattle.std.specs.Prelude.{ℕ, List, Option, Result, MatchResult}
 use Rattle.std.specs.Io.KnownBytes.{Appends}
 use Rattle.tab_outside.specs.Transfers.{TookFront}
-use Rattle.tab_drive.specs.Walk.{done_outcome, reply_outcome}
+use Rattle.tab_drive.specs.RunStates.{done_outcome, reply_outcome}
 use Rattle.tab_drive.specs.declared.outgoing.Outgoing.{Outgoing}
 use Rattle.tab_drive.specs.declared.outgoing.Outgoing.TheVariants.{Done, Reply, Fixed}
 

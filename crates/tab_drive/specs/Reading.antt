@@ -3,7 +3,7 @@ use Rattle.std.specs.Prelude.{◌≡◌, ◌≢◌, ℕ, ◌+◌, ◌≤◌, Lis
 use Rattle.std.specs.Io.KnownBytes.{Consumes}
 use Rattle.tab_drive.specs.Lines.{IsLine, line_text, longest_line}
 use Rattle.tab_drive.specs.Schedule.{Fits, IsNoEvent, spelling, end_line, line_feed, longest_message}
-use Rattle.tab_drive.specs.declared.lines.Line.TheVariants.{Call as CallLine}
+use Rattle.tab_drive.specs.declared.lines.ScheduleLine.TheVariants.{Call as CallLine}
 use Rattle.tab_drive.specs.declared.reading.NextEvent.{NextEvent}
 use Rattle.tab_drive.specs.declared.reading.NextEvent.TheVariants.{Event, End}
 use Rattle.tab_drive.specs.declared.reading.Unread.{Unread}

@@ -8,12 +8,12 @@ use Rattle.tab_history.specs.Legality.{Legal}
 use Rattle.tab_history.specs.declared.entries.Entry.{Entry}
 use Rattle.tab_drive.specs.Schedule.{spelling, Fits, end_line, IsNoEvent}
 use Rattle.tab_drive.specs.Reading.{IfTold, IsWithinOne}
-use Rattle.tab_drive.specs.Walk.{Walk, Exchange, first_walk, opening, last_number, Happens, Follows, walk_after, walk_after_all, bytes_of, entries_of, text_of, IsRefused}
+use Rattle.tab_drive.specs.RunStates.{RunState, Exchange, opened_state, opening, last_number, Happens, Follows, state_after, state_after_all, bytes_of, entries_of, text_of, IsRefused}
 use Rattle.tab_drive.specs.Sessions.{Keeps}
 use Rattle.tab_drive.specs.declared.schedule.Scheduled.{Scheduled}
 use Rattle.tab_drive.specs.declared.session.Session.{Session}
-use Rattle.tab_drive.specs.declared.serving.Stop.{Stop}
-use Rattle.tab_drive.specs.declared.serving.Stop.TheVariants.{End, Refused, ReadFault, WriteFault, Memory}
+use Rattle.tab_drive.specs.declared.serving.RunStop.{RunStop}
+use Rattle.tab_drive.specs.declared.serving.RunStop.TheVariants.{End, Refused, ReadFault, WriteFault, Memory}
 
 -- what a source had and has left, and what a sink had and has taken
 pub record Traffic : Type 0 where
@@ -24,31 +24,31 @@ pub record Traffic : Type 0 where
 
 -- ---- one event
 
--- the exchange happened where the walk stands
-pub record Exchanged (keys : Keys) (walk : Walk) (exchange : Exchange) (old new : Session) : Type 0 where
+-- the exchange happened in this state
+pub record Exchanged (keys : Keys) (state : RunState) (exchange : Exchange) (old new : Session) : Type 0 where
   pub fits : Fits exchange.event
-  pub numbered : walk.number < last_number
-  pub happens : Happens keys walk exchange.event exchange.entries exchange.text
-  pub legal : Legal walk.past exchange.entries
-  pub keeps : Keeps new (walk_after walk exchange.event exchange.entries)
+  pub numbered : state.number < last_number
+  pub happens : Happens keys state exchange.event exchange.entries exchange.text
+  pub legal : Legal state.past exchange.entries
+  pub keeps : Keeps new (state_after state exchange.event exchange.entries)
   pub history : new.history.items ≡ old.history.items ++ exchange.entries
 
 -- an event was read, taken and answered, and its text was written whole
-pub record Turned (keys : Keys) (walk : Walk) (traffic : Traffic) (old new : Session) : Type 0 where
+pub record EventServed (keys : Keys) (state : RunState) (traffic : Traffic) (old new : Session) : Type 0 where
   pub exchange : Exchange
-  pub exchanged : Exchanged keys walk exchange old new
+  pub exchanged : Exchanged keys state exchange old new
   pub read : Consumes traffic.left_before traffic.left (spelling exchange.event)
   pub written : Appends traffic.taken_before traffic.taken exchange.text
 
 -- its text was not written whole
-pub record TurnedShort (keys : Keys) (walk : Walk) (traffic : Traffic) (old new : Session) : Type 0 where
+pub record EventServedShort (keys : Keys) (state : RunState) (traffic : Traffic) (old new : Session) : Type 0 where
   pub exchange : Exchange
-  pub exchanged : Exchanged keys walk exchange old new
+  pub exchanged : Exchanged keys state exchange old new
   pub read : Consumes traffic.left_before traffic.left (spelling exchange.event)
   pub written : TookFront traffic.taken_before traffic.taken exchange.text
 
 -- bytes were taken from the source, and nothing else happened
-pub record TurnedIdle (P : List ℕ → Type 0) (traffic : Traffic) (old new : Session) : Type 0 where
+pub record NoneServed (P : List ℕ → Type 0) (traffic : Traffic) (old new : Session) : Type 0 where
   pub part : List ℕ
   pub are : P part
   pub read : Consumes traffic.left_before traffic.left part
@@ -63,19 +63,19 @@ IsCutShort bytes = IsNoEvent bytes × IsWithinOne bytes
 abbrev pub IsOneAtMost : List ℕ → Type 0
 IsOneAtMost bytes = ((event : Scheduled) × Fits event × (bytes ≡ spelling event)) ⊎ IsCutShort bytes
 
--- how a turn stopped the run
-abbrev pub StopsTurn : Keys → Walk → Traffic → Session → Session → Stop → Type 0
-StopsTurn keys walk traffic old new End = TurnedIdle (λ part. part ≡ end_line) traffic old new
-StopsTurn keys walk traffic old new Refused = IfTold traffic.left_before (IsRefused walk) × TurnedIdle IsOneAtMost traffic old new
-StopsTurn keys walk traffic old new ReadFault = TurnedIdle IsCutShort traffic old new
-StopsTurn keys walk traffic old new WriteFault = TurnedShort keys walk traffic old new
-StopsTurn keys walk traffic old new Memory = TurnedIdle IsOneAtMost traffic old new
+-- how serving one event stopped the run
+abbrev pub StopsServing : Keys → RunState → Traffic → Session → Session → RunStop → Type 0
+StopsServing keys state traffic old new End = NoneServed (λ part. part ≡ end_line) traffic old new
+StopsServing keys state traffic old new Refused = IfTold traffic.left_before (IsRefused state) × NoneServed IsOneAtMost traffic old new
+StopsServing keys state traffic old new ReadFault = NoneServed IsCutShort traffic old new
+StopsServing keys state traffic old new WriteFault = EventServedShort keys state traffic old new
+StopsServing keys state traffic old new Memory = NoneServed IsOneAtMost traffic old new
 
 -- ---- a whole schedule
 
--- the exchanges follow one another from the walk's beginning, and the history is the opening's entry and theirs
+-- the exchanges follow one another from the opened state on, and the history is the opening's entry and theirs
 pub record Ran (keys : Keys) (moment : ℕ) (history : List Entry) (exchanges : List Exchange) : Type 0 where
-  pub follows : Follows keys (first_walk moment) exchanges
+  pub follows : Follows keys (opened_state moment) exchanges
   pub acted : history ≡ opening ∷ entries_of exchanges
 
 -- the schedule was read up to its last line, and all of its texts were written
@@ -92,7 +92,7 @@ pub record RefusedNext (keys : Keys) (moment : ℕ) (traffic : Traffic) (history
   pub ran : Ran keys moment history exchanges
   pub behind : Option (List ℕ)
   pub read : Consumes traffic.left_before behind (bytes_of exchanges)
-  pub refused : IfTold behind (IsRefused (walk_after_all (first_walk moment) exchanges))
+  pub refused : IfTold behind (IsRefused (state_after_all (opened_state moment) exchanges))
   pub part : List ℕ
   pub within : IsOneAtMost part
   pub further : Consumes behind traffic.left part
@@ -121,7 +121,7 @@ pub record Unwritten (keys : Keys) (moment : ℕ) (traffic : Traffic) (history :
   pub counted : done ≡ length exchanges
 
 -- how a schedule stopped
-abbrev pub Stops : Keys → ℕ → Traffic → List Entry → ℕ → Stop → Type 0
+abbrev pub Stops : Keys → ℕ → Traffic → List Entry → ℕ → RunStop → Type 0
 Stops keys moment traffic history done End = Finished keys moment traffic history done
 Stops keys moment traffic history done Refused = RefusedNext keys moment traffic history done
 Stops keys moment traffic history done ReadFault = LeftOff IsCutShort keys moment traffic history done

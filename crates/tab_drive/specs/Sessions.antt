@@ -1,4 +1,4 @@
--- What a session keeps of a walk, the entries of a decided request, and what one step does.
+-- What a session keeps of a run's state, the entries of a decided request, and what one step does.
 use Rattle.std.specs.Prelude.{◌≡◌, ℕ, ◌+◌, List, [], ◌∷◌, ◌++◌, true, false, Option, Some, None, option_map, Ok, Err}
 use Rattle.tab_keys.specs.declared.bounds.Bound.TheVariants.{At}
 use Rattle.tab_auth.specs.declared.signatures.Keys.{Keys}
@@ -15,33 +15,33 @@ use Rattle.tab_history.specs.declared.asks.Reply.{Reply}
 use Rattle.tab_history.specs.declared.asks.Reply.TheVariants.{Found, Listed as PageGiven, Changed as Written, Made, Dropped as Gone, Tables, Denied as Refusal}
 use Rattle.tab_service.specs.declared.forms.Request.{Request}
 use Rattle.tab_service.specs.Replies.{reply_text}
-use Rattle.tab_drive.specs.Walk.{Walk, name_of, Happens, reply_outcome, walk_after}
+use Rattle.tab_drive.specs.RunStates.{RunState, name_of, Happens, reply_outcome, state_after}
 use Rattle.tab_drive.specs.Stores.{Held, held_by, held_then, IsDecided}
 use Rattle.tab_drive.specs.declared.look_ups.LookUp.{LookUp}
 use Rattle.tab_drive.specs.declared.schedule.Scheduled.{Scheduled}
 use Rattle.tab_drive.specs.declared.session.Session.{Session}
-use Rattle.tab_drive.specs.declared.stores.Decided.{Decided}
+use Rattle.tab_drive.specs.declared.stores.StoreAnswer.{StoreAnswer}
 
--- what the walk says that the store holds
-abbrev pub held_in : Walk → Held
-held_in walk = record {
-  names = walk.past.world.names;
-  next_table = walk.past.world.next_table;
-  rows = walk.past.world.rows;
-  next_tick = walk.next_tick;
+-- what the state says that the store holds
+abbrev pub held_in : RunState → Held
+held_in state = record {
+  names = state.past.world.names;
+  next_table = state.past.world.next_table;
+  rows = state.past.world.rows;
+  next_tick = state.next_tick;
 }
 
--- the walk's store has one number for all floors, and one range
-pub record IsServing (walk : Walk) : Type 0 where
-  pub floors : IsNextTick walk.past.world.floors walk.next_tick
-  pub bounds : walk.past.bounds ≡ At 0 [] ∷ []
+-- the state's store has one number for all floors, and one range
+pub record IsServing (state : RunState) : Type 0 where
+  pub floors : IsNextTick state.past.world.floors state.next_tick
+  pub bounds : state.past.bounds ≡ At 0 [] ∷ []
 
--- the session stands where the walk does
-pub record Keeps (session : Session) (walk : Walk) : Type 0 where
-  pub moment : session.moment ≡ walk.moment
-  pub number : session.number ≡ walk.number
-  pub held : held_by session.store ≡ held_in walk
-  pub serving : IsServing walk
+-- the session is in this state
+pub record Keeps (session : Session) (state : RunState) : Type 0 where
+  pub moment : session.moment ≡ state.moment
+  pub number : session.number ≡ state.number
+  pub held : held_by session.store ≡ held_in state
+  pub serving : IsServing state
 
 -- ---- the entries of a decided request
 
@@ -109,17 +109,17 @@ entries_for number moment held what reply = entries_by (look_up held.names what)
 
 -- ---- steps
 
--- the event happened: the history has its entries, which are legal, and the session stands where the walk does after it
-pub record Stepped (keys : Keys) (walk : Walk) (event : Scheduled) (text : List ℕ) (old new : Session) : Type 0 where
+-- the event happened: the history has its entries, which are legal, and the session is in the state after it
+pub record Stepped (keys : Keys) (state : RunState) (event : Scheduled) (text : List ℕ) (old new : Session) : Type 0 where
   pub entries : List Entry
-  pub happens : Happens keys walk event entries text
-  pub legal : Legal walk.past entries
-  pub keeps : Keeps new (walk_after walk event entries)
+  pub happens : Happens keys state event entries text
+  pub legal : Legal state.past entries
+  pub keeps : Keeps new (state_after state event entries)
   pub history : new.history.items ≡ old.history.items ++ entries
 
 -- a request was answered with this text, and the history has its entries
 pub record Replied (old new : Session) (request : Request) (text : List ℕ) : Type 0 where
-  pub decided : Decided
+  pub decided : StoreAnswer
   pub comes : IsDecided (held_by old.store) old.moment request.ask decided
   pub written : text ≡ reply_outcome (reply_text request decided.reply)
   pub history : new.history.items ≡ old.history.items ++ entries_for old.number old.moment (held_by old.store) request.ask decided.reply

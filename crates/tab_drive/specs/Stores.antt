@@ -17,8 +17,8 @@ use Rattle.tab_history.specs.declared.asks.Ask.{Ask}
 use Rattle.tab_history.specs.declared.asks.Ask.TheVariants.{Create as Creating, Drop as Dropping, Tables as Listing, Get as Getting, Page as Paging, Change as Writing}
 use Rattle.tab_history.specs.declared.asks.Reply.{Reply}
 use Rattle.tab_history.specs.declared.asks.Reply.TheVariants.{Found, Listed, Changed, Made, Dropped, Tables, Denied}
-use Rattle.tab_drive.specs.Walk.{name_of, last_number}
-use Rattle.tab_drive.specs.declared.stores.Decided.{Decided}
+use Rattle.tab_drive.specs.RunStates.{name_of, last_number}
+use Rattle.tab_drive.specs.declared.stores.StoreAnswer.{StoreAnswer}
 use Rattle.tab_drive.specs.declared.stores.Effect.{Effect}
 use Rattle.tab_drive.specs.declared.stores.Effect.TheVariants.{Nothing, Change, Create, Drop}
 use Rattle.tab_drive.specs.declared.stores.Store.{Store}
@@ -40,46 +40,46 @@ table_for names what = option_and_then (table_of names) (name_of what)
 -- ---- what a request comes to
 
 -- it is denied
-abbrev pub denied : Why → Decided
+abbrev pub denied : Why → StoreAnswer
 denied why = record { reply = Denied why; effect = Nothing }
 
 -- it is answered, and changes nothing
-abbrev pub answered : Reply → Decided
+abbrev pub answered : Reply → StoreAnswer
 answered reply = record { reply = reply; effect = Nothing }
 
 -- no memory was found
-abbrev pub Lacks : Decided → Type 0
+abbrev pub Lacks : StoreAnswer → Type 0
 Lacks decided = decided ≡ denied Memory
 
 -- a table is made
-pub record Creates (held : Held) (name : List ℕ) (decided : Decided) : Type 0 where
+pub record Creates (held : Held) (name : List ℕ) (decided : StoreAnswer) : Type 0 where
   pub absent : table_of held.names name ≡ None
   pub numbered : held.next_table < last_number
   pub is : decided ≡ record { reply = Made name; effect = Create name }
 
 -- or there is one of the name
-pub record FindsTable (held : Held) (name : List ℕ) (decided : Decided) : Type 0 where
+pub record FindsTable (held : Held) (name : List ℕ) (decided : StoreAnswer) : Type 0 where
   pub there : is_some (table_of held.names name) ≡ true
   pub is : decided ≡ denied TableThere
 
 -- or no number is left for it
-pub record LacksNumber (held : Held) (name : List ℕ) (decided : Decided) : Type 0 where
+pub record LacksNumber (held : Held) (name : List ℕ) (decided : StoreAnswer) : Type 0 where
   pub absent : table_of held.names name ≡ None
   pub spent : last_number ≤ held.next_table
   pub is : decided ≡ denied IdsSpent
 
 -- a table is dropped
-pub record Drops (held : Held) (name : List ℕ) (decided : Decided) : Type 0 where
+pub record Drops (held : Held) (name : List ℕ) (decided : StoreAnswer) : Type 0 where
   pub there : is_some (table_of held.names name) ≡ true
   pub is : decided ≡ record { reply = Dropped; effect = Drop name }
 
 -- or there is none of the name
-pub record FindsNone (held : Held) (name : List ℕ) (decided : Decided) : Type 0 where
+pub record FindsNone (held : Held) (name : List ℕ) (decided : StoreAnswer) : Type 0 where
   pub absent : is_some (table_of held.names name) ≡ false
   pub is : decided ≡ denied NoTable
 
 -- the names of tables from one on
-abbrev pub Names : Held → Option (List ℕ) → ℕ → Decided → Type 0
+abbrev pub Names : Held → Option (List ℕ) → ℕ → StoreAnswer → Type 0
 Names held after top decided = decided ≡ answered (Tables (take top (names_from held.names after)) (slice_get (names_from held.names after) top))
 
 -- the reply to a point read
@@ -88,11 +88,11 @@ found_or_not (Some row) = Found row
 found_or_not None = Denied NotFound
 
 -- the row at a key, or that there is none
-abbrev pub Gets : Held → Key → Decided → Type 0
+abbrev pub Gets : Held → Key → StoreAnswer → Type 0
 Gets held key decided = decided ≡ answered (found_or_not (row_at held.rows key))
 
 -- the page up to the end of all keys
-abbrev pub Pages : Held → ℕ → Options → Decided → Type 0
+abbrev pub Pages : Held → ℕ → Options → StoreAnswer → Type 0
 Pages held table options decided = decided ≡ answered (Listed (page_below held.rows table options End))
 
 -- the tick that the next change has at a moment
@@ -100,7 +100,7 @@ abbrev pub tick_at : Held → ℕ → ℕ
 tick_at held moment = max moment held.next_tick
 
 -- the group stands
-pub record Makes (held : Held) (moment table : ℕ) (group : List ItemView) (decided : Decided) : Type 0 where
+pub record Makes (held : Held) (moment table : ℕ) (group : List ItemView) (decided : StoreAnswer) : Type 0 where
   pub is_group : IsGroup group
   pub made : Changes
   pub is : decided ≡ record { reply = Changed (tick_at held moment); effect = Change made }
@@ -109,7 +109,7 @@ pub record Makes (held : Held) (moment table : ℕ) (group : List ItemView) (dec
   pub outcome : group_outcome held.rows table (tick_at held moment) group ≡ Ok (applied held.rows made.list)
 
 -- the group is refused
-pub record IsRefusedGroup (held : Held) (moment table : ℕ) (group : List ItemView) (decided : Decided) : Type 0 where
+pub record IsRefusedGroup (held : Held) (moment table : ℕ) (group : List ItemView) (decided : StoreAnswer) : Type 0 where
   pub is_group : IsGroup group
   pub refusal : OpRefused
   pub is : decided ≡ denied (Op refusal)
@@ -118,16 +118,16 @@ pub record IsRefusedGroup (held : Held) (moment table : ℕ) (group : List ItemV
   pub outcome : group_outcome held.rows table (tick_at held moment) group ≡ Err refusal
 
 -- no moment is left for the tick
-pub record LacksMoment (held : Held) (moment : ℕ) (decided : Decided) : Type 0 where
+pub record LacksMoment (held : Held) (moment : ℕ) (decided : StoreAnswer) : Type 0 where
   pub spent : GREATEST < tick_at held moment
   pub is : decided ≡ denied TimeSpent
 
 -- what is said of a table where it is there; where it is not, that is said
-abbrev pub OnTable : Option ℕ → (ℕ → Type 0) → Decided → Type 0
+abbrev pub OnTable : Option ℕ → (ℕ → Type 0) → StoreAnswer → Type 0
 OnTable None P decided = decided ≡ denied NoTable
 OnTable (Some table) P decided = P table
 
-abbrev pub IsDecided : Held → ℕ → Ask → Decided → Type 0
+abbrev pub IsDecided : Held → ℕ → Ask → StoreAnswer → Type 0
 IsDecided held moment (Creating name) decided = Creates held name decided ⊎ (FindsTable held name decided ⊎ (LacksNumber held name decided ⊎ Lacks decided))
 IsDecided held moment (Dropping name) decided = Drops held name decided ⊎ (FindsNone held name decided ⊎ Lacks decided)
 IsDecided held moment (Listing after top) decided = Names held after top decided ⊎ Lacks decided

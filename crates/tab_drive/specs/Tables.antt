@@ -17,16 +17,16 @@ AreInOrder names = AllPairs (λ a b. IsTrue (is_lt (name_cmp a.spelling b.spelli
 abbrev pub spellings : List Named → List (List ℕ)
 spellings names = map (λ named. named.spelling) names
 
--- the table at this place has the name, whatever its case, and the others are below it or above it
-pub record StandsAt (names : List Named) (name : List ℕ) (place : ℕ) : Type 0 where
+-- the table at this index has the name, whatever its case, and the others are below it or above it
+pub record StandsAt (names : List Named) (name : List ℕ) (index : ℕ) : Type 0 where
   pub named : Named
-  pub here : slice_get names place ≡ Some named
+  pub here : slice_get names index ≡ Some named
   pub same : IsTrue (is_eq (name_cmp named.spelling name))
-  pub below : All (λ other. IsTrue (is_lt (name_cmp other.spelling name))) (take place names)
-  pub above : All (λ other. IsTrue (is_lt (name_cmp name other.spelling))) (drop (suc place) names)
+  pub below : All (λ other. IsTrue (is_lt (name_cmp other.spelling name))) (take index names)
+  pub above : All (λ other. IsTrue (is_lt (name_cmp name other.spelling))) (drop (suc index) names)
 
--- the names before this place are below this one, and no other
-pub record BeginsAt (names : List Named) (name : List ℕ) (place : ℕ) : Type 0 where
-  pub within : place ≤ length names
-  pub below : All (λ other. IsTrue (is_lt (name_cmp other.spelling name))) (take place names)
-  pub rest : All (λ other. IsFalse (is_lt (name_cmp other.spelling name))) (drop place names)
+-- the names before this index are below this one, and no other
+pub record BeginsAt (names : List Named) (name : List ℕ) (index : ℕ) : Type 0 where
+  pub within : index ≤ length names
+  pub below : All (λ other. IsTrue (is_lt (name_cmp other.spelling name))) (take index names)
+  pub rest : All (λ other. IsFalse (is_lt (name_cmp other.spelling name))) (drop index names)

@@ -1,5 +1,5 @@
 ghost use Rattle.std.specs.Prelude.{◌≡◌, ◌≢◌, ℕ, ◌<◌, ◌^◌, decimal, IfSome, IsNone};
-ghost use Rattle.tab_drive.specs.declared.lines.Line.{Line as TheLine};
+ghost use Rattle.tab_drive.specs.declared.lines.ScheduleLine.{ScheduleLine as TheLine};
 ghost use Rattle.tab_drive.specs.Lines.{line_text, IsInRange};
 
 use std::str;
@@ -9,7 +9,7 @@ const LONGEST_MESSAGE: u64 = 4_227_072;
 
 /// What one line of a schedule says.
 #[derive(Clone, Copy, Debug)]
-pub enum Line {
+pub enum ScheduleLine {
     /// The schedule ends.
     End,
     /// An event that sets the moment.
@@ -19,19 +19,19 @@ pub enum Line {
 }
 
 /// Reads a line, which is given without its line feed.
-pub fn parse_line(line: &[u8]) -> Option<Line>
+pub fn parse_line(line: &[u8]) -> Option<ScheduleLine>
     ensures some { IfSome result (λ parsed. (line.now ≡ line_text parsed) × IsInRange parsed) }
     ensures none { IsNone result → (parsed : TheLine) → IsInRange parsed → line.now ≢ line_text parsed }
 {
     if line == b"end".as_slice() {
-        return Some(Line::End);
+        return Some(ScheduleLine::End);
     }
     if let Some(digits) = line.strip_prefix(b"now ") {
-        return parse_decimal(digits).map(|moment| Line::Now { moment });
+        return parse_decimal(digits).map(|moment| ScheduleLine::Now { moment });
     }
     let size = parse_decimal(line.strip_prefix(b"call ")?)?;
     if size <= LONGEST_MESSAGE {
-        Some(Line::Call {
+        Some(ScheduleLine::Call {
             size: size as usize,
         })
     } else {

@@ -1,6 +1,6 @@
 ghost use Rattle.std.specs.Prelude.{◌≡◌, ◌<◌, length, IfOk, option_map, option_and_then};
 ghost use Rattle.std.specs.Option.{option_copied};
-ghost use Rattle.tab_drive.specs.Walk.{name_of};
+ghost use Rattle.tab_drive.specs.RunStates.{name_of};
 ghost use Rattle.tab_drive.specs.Sessions.{look_up};
 
 use crate::tables::Tables;

@@ -1,7 +1,7 @@
 ghost use Rattle.std.specs.Prelude.{◌≡◌, vec_items, flat_map};
 ghost use Rattle.tab_outside.specs.Faults.{HasCause};
 ghost use Rattle.tab_drive.specs.Outgoing.{Wrote, outgoing_text};
-ghost use Rattle.tab_drive.specs.Walk.{reply_outcome};
+ghost use Rattle.tab_drive.specs.RunStates.{reply_outcome};
 
 use arrayvec::ArrayString;
 use itoa::Buffer;
@@ -28,13 +28,13 @@ pub fn write_outgoing<K: Sink>(sink: &mut K, outgoing: &Outgoing) -> Result<(), 
 {
     match outgoing {
         Outgoing::Done => write_pieces(sink, &[b"ok\n".as_slice()]),
-        Outgoing::Reply(reply) => write_reply(sink, reply.as_slice()),
-        Outgoing::Fixed(reply) => write_reply(sink, reply),
+        Outgoing::Reply(reply) => write_reply_outcome(sink, reply.as_slice()),
+        Outgoing::Fixed(reply) => write_reply_outcome(sink, reply),
     }
 }
 
 /// Writes the line of the reply's length, its bytes, and a line's end.
-fn write_reply<K: Sink>(sink: &mut K, reply: &[u8]) -> Result<(), Failed>
+fn write_reply_outcome<K: Sink>(sink: &mut K, reply: &[u8]) -> Result<(), Failed>
     ensures written { Wrote (K.taken sink.old) (K.taken sink.new) result (reply_outcome reply.now) }
     ensures cause { HasCause (K.faults sink.old) (K.faults sink.new) result }
     ensures beside { K.beside sink.new ≡ K.beside sink.old }

@@ -4,7 +4,7 @@ ghost use Rattle.tab_drive.specs.Schedule.{IsNoEvent};
 ghost use Rattle.tab_drive.specs.declared.reading.Unread.TheVariants.{Fault, Memory};
 ghost use Rattle.tab_outside.specs.Faults.{Rose};
 
-use crate::lines::{Line, parse_line};
+use crate::lines::{ScheduleLine, parse_line};
 use crate::schedule::{RawMessage, Scheduled};
 use std::alloc::{AllocFailed, Global};
 use tab_outside::{Failed, FillRefused, Source, fill, read_byte};
@@ -50,9 +50,9 @@ pub fn next_event<S: Source>(alloc: Global, source: &mut S) -> Result<NextEvent,
         return Err(Unread::NoEvent);
     };
     match said {
-        Line::End => Ok(NextEvent::End),
-        Line::Now { moment } => Ok(NextEvent::Event(Scheduled::Now { moment })),
-        Line::Call { size } => {
+        ScheduleLine::End => Ok(NextEvent::End),
+        ScheduleLine::Now { moment } => Ok(NextEvent::Event(Scheduled::Now { moment })),
+        ScheduleLine::Call { size } => {
             let message = read_message(alloc, source, size)?;
             Ok(NextEvent::Event(Scheduled::Call { message }))
         }

@@ -1,9 +1,9 @@
 ghost use Rattle.std.specs.Prelude.{◌≡◌, ◌<◌, ◌≤◌, ◌-◌, ◌^◌, IfNone, IfSome, IfOk, OnErr, Some};
 ghost use Rattle.tab_outside.specs.Faults.{Rose};
 ghost use Rattle.tab_history.specs.Legality.{Legal};
-ghost use Rattle.tab_drive.specs.Walk.{Walk, first_state};
+ghost use Rattle.tab_drive.specs.RunStates.{RunState, first_state};
 ghost use Rattle.tab_drive.specs.Sessions.{Keeps};
-ghost use Rattle.tab_drive.specs.Runs.{Turned, StopsTurn, Stops};
+ghost use Rattle.tab_drive.specs.Runs.{EventServed, StopsServing, Stops};
 
 use crate::outgoing::write_outgoing;
 use crate::reading::{NextEvent, Unread, next_event};
@@ -16,7 +16,7 @@ use tab_outside::{Sink, Source};
 
 /// Why a schedule was read no further.
 #[derive(Clone, Copy, Debug, PartialEq, Eq)]
-pub enum Stop {
+pub enum RunStop {
     /// Its last line was read.
     End,
     /// The next event is refused.
@@ -30,48 +30,48 @@ pub enum Stop {
 }
 
 /// Reads the next event, takes it, and writes what it gives.
-pub fn turn<S: Source, K: Sink>(
+pub fn serve_event<S: Source, K: Sink>(
     alloc: Global,
     keys: &Keys,
     session: &mut Session,
     input: &mut S,
     output: &mut K,
-) -> Option<Stop>
-    ensures turned { (walk : Walk) → Keeps session.old walk → IfNone result (Turned keys.now walk
+) -> Option<RunStop>
+    ensures served { (state : RunState) → Keeps session.old state → IfNone result (EventServed keys.now state
         (record { left_before = S.left input.old; left = S.left input.new; taken_before = K.taken output.old; taken = K.taken output.new }) session.old session.new) }
-    ensures stopped { (walk : Walk) → Keeps session.old walk → IfSome result (StopsTurn keys.now walk
+    ensures stopped { (state : RunState) → Keeps session.old state → IfSome result (StopsServing keys.now state
         (record { left_before = S.left input.old; left = S.left input.new; taken_before = K.taken output.old; taken = K.taken output.new }) session.old session.new) }
     ensures numbered { session.old.number < 2 ^ 64 }
-    ensures read_fault { result ≡ Some Stop.ReadFault → Rose (S.faults input.old) (S.faults input.new) }
-    ensures write_fault { result ≡ Some Stop.WriteFault → Rose (K.faults output.old) (K.faults output.new) }
+    ensures read_fault { result ≡ Some RunStop.ReadFault → Rose (S.faults input.old) (S.faults input.new) }
+    ensures write_fault { result ≡ Some RunStop.WriteFault → Rose (K.faults output.old) (K.faults output.new) }
     ensures read_later { S.faults input.old ≤ S.faults input.new }
     ensures write_later { K.faults output.old ≤ K.faults output.new }
 {
     let number = session.number;
     let event = match next_event(alloc, input) {
         Ok(NextEvent::Event(event)) => event,
-        Ok(NextEvent::End) => return Some(Stop::End),
-        Err(Unread::NoEvent) => return Some(Stop::Refused),
-        Err(Unread::Fault) => return Some(Stop::ReadFault),
-        Err(Unread::Memory) => return Some(Stop::Memory),
+        Ok(NextEvent::End) => return Some(RunStop::End),
+        Err(Unread::NoEvent) => return Some(RunStop::Refused),
+        Err(Unread::Fault) => return Some(RunStop::ReadFault),
+        Err(Unread::Memory) => return Some(RunStop::Memory),
     };
     if number == u64::MAX {
-        return Some(Stop::Refused);
+        return Some(RunStop::Refused);
     }
     let outgoing = match session.step(alloc, keys, event) {
         Ok(outgoing) => outgoing,
-        Err(_) => return Some(Stop::Memory),
+        Err(_) => return Some(RunStop::Memory),
     };
     match write_outgoing(output, &outgoing) {
         Ok(()) => None,
-        Err(_) => Some(Stop::WriteFault),
+        Err(_) => Some(RunStop::WriteFault),
     }
 }
 
 /// Where a schedule stopped: why, how many of its events were answered whole, and the history.
 #[derive(Drop)]
 pub struct Served {
-    pub stop: Stop,
+    pub stop: RunStop,
     pub done: u64,
     pub history: Vec<Entry>,
 }
@@ -87,8 +87,8 @@ pub fn serve<S: Source, K: Sink>(
     ensures stops { IfOk result (λ served. Stops keys.now moment
         (record { left_before = S.left input.old; left = S.left input.new; taken_before = K.taken output.old; taken = K.taken output.new }) served.history.items served.done served.stop) }
     ensures legal { IfOk result (λ served. Legal first_state served.history.items) }
-    ensures read_fault { IfOk result (λ served. served.stop ≡ Stop.ReadFault → Rose (S.faults input.old) (S.faults input.new)) }
-    ensures write_fault { IfOk result (λ served. served.stop ≡ Stop.WriteFault → Rose (K.faults output.old) (K.faults output.new)) }
+    ensures read_fault { IfOk result (λ served. served.stop ≡ RunStop.ReadFault → Rose (S.faults input.old) (S.faults input.new)) }
+    ensures write_fault { IfOk result (λ served. served.stop ≡ RunStop.WriteFault → Rose (K.faults output.old) (K.faults output.new)) }
     ensures numbered { IfOk result (λ served. served.done < 2 ^ 64 - 1) }
     ensures unread { OnErr result (S.left input.new ≡ S.left input.old) }
     ensures unwritten { OnErr result (K.taken output.new ≡ K.taken output.old) }
@@ -98,7 +98,7 @@ pub fn serve<S: Source, K: Sink>(
     let mut session = Session::open(alloc, moment)?;
     let mut done = 0;
     loop {
-        if let Some(stop) = turn(alloc, keys, &mut session, input, output) {
+        if let Some(stop) = serve_event(alloc, keys, &mut session, input, output) {
             return Ok(Served {
                 stop,
                 done,

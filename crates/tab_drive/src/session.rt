@@ -1,24 +1,24 @@
 ghost use Rattle.std.specs.Prelude.{◌≡◌, ◌≢◌, ◌+◌, ◌-◌, ◌^◌, ◌<◌, ◌≤◌, [], ◌∷◌, ◌++◌, IfOk, IfSome, OnOk, OnErr, vec_len, vec_capacity};
 ghost use Rattle.tab_service.specs.Replies.{reply_text};
 ghost use Rattle.tab_service.specs.Forms.{IsInForm};
-ghost use Rattle.tab_drive.specs.Walk.{Walk, first_walk, opening, name_of, reply_outcome};
+ghost use Rattle.tab_drive.specs.RunStates.{RunState, opened_state, opening, name_of, reply_outcome};
 ghost use Rattle.tab_drive.specs.Outgoing.{outgoing_text};
 ghost use Rattle.tab_drive.specs.Stores.{held_by, held_then, table_for, IsDecided, HasRoom};
 ghost use Rattle.tab_drive.specs.Sessions.{Keeps, Stepped, Replied, Unchanged, RefusedAt, look_up, entries_for, entries_by};
 
-use crate::answers::{row_entry, table_entry};
+use crate::entries::{row_entry, table_entry};
 use crate::look_ups::{LookUp, look_up, table_of};
 use crate::messages::whole_message;
 use crate::outgoing::Outgoing;
-use crate::paging::AllKeys;
+use crate::ranges::AllKeys;
 use crate::schedule::{RawMessage, Scheduled};
-use crate::stores::{Decided, Store};
+use crate::stores::{StoreAnswer, Store};
 use std::alloc::Global;
 use tab_auth::Keys;
 use tab_history::{Ask, Bounds, Denied, Entry, Reply};
 use tab_keys::Memory;
 use tab_service::{
-    Decided as Decision, ReplyBytes, Request, decide, http_fault, memory_reply, reply_bytes,
+    Decided, ReplyBytes, Request, decide, http_fault, memory_reply, reply_bytes,
 };
 
 /// A store in memory on its way through a schedule, with the history so far.
@@ -35,7 +35,7 @@ pub struct Session {
 impl Session {
     /// Opens a store without tables. Its history begins with the bounds of its one range.
     pub fn open(alloc: Global, moment: u64) -> Result<Session, Memory>
-        ensures keeps { IfOk result (λ session. Keeps session (first_walk moment)) }
+        ensures keeps { IfOk result (λ session. Keeps session (opened_state moment)) }
         ensures history { IfOk result (λ session. session.history.items ≡ opening ∷ []) }
     {
         let mut bounds = Vec::new(alloc);
@@ -54,7 +54,7 @@ impl Session {
     /// found, all is as before.
     pub fn step(&mut self, alloc: Global, keys: &Keys, event: Scheduled) -> Result<Outgoing, Memory>
         requires { self.old.number < 2 ^ 64 - 1 }
-        ensures ok { (walk : Walk) → Keeps self.old walk → IfOk result (λ outgoing. Stepped keys.now walk event (outgoing_text outgoing) self.old self.new) }
+        ensures ok { (state : RunState) → Keeps self.old state → IfOk result (λ outgoing. Stepped keys.now state event (outgoing_text outgoing) self.old self.new) }
         ensures err { OnErr result (Unchanged self.old self.new) }
     {
         match event {
@@ -70,13 +70,13 @@ impl Session {
     /// Reads a message and answers it.
     fn call(&mut self, alloc: Global, keys: &Keys, message: RawMessage) -> Result<Outgoing, Memory>
         requires number { self.old.number < 2 ^ 64 - 1 }
-        ensures ok { (walk : Walk) → Keeps self.old walk → IfOk result (λ outgoing. Stepped keys.now walk (Scheduled.Call message) (outgoing_text outgoing) self.old self.new) }
+        ensures ok { (state : RunState) → Keeps self.old state → IfOk result (λ outgoing. Stepped keys.now state (Scheduled.Call message) (outgoing_text outgoing) self.old self.new) }
         ensures err { OnErr result (Unchanged self.old self.new) }
     {
         match whole_message(alloc, message) {
             Ok(message) => match decide(alloc, &message, keys, self.moment)? {
-                Decision::Go(request) => self.answer(alloc, request),
-                Decision::No(reply) => Ok(self.refuse(Outgoing::Reply(reply))),
+                Decided::Go(request) => self.answer(alloc, request),
+                Decided::No(reply) => Ok(self.refuse(Outgoing::Reply(reply))),
             },
             Err(refused) => match http_fault(&refused) {
                 Some(reply) => Ok(self.refuse(Outgoing::Fixed(reply))),
@@ -113,7 +113,7 @@ impl Session {
     }
 
     /// Adds the entries of a decided request to the history, and does what it does to the store.
-    fn record(&mut self, look: Option<LookUp>, ask: Ask, decided: Decided)
+    fn record(&mut self, look: Option<LookUp>, ask: Ask, decided: StoreAnswer)
         requires room { vec_len self.old.history + 2 ≤ vec_capacity self.old.history }
         requires number { self.old.number < 2 ^ 64 - 1 }
         requires effect { HasRoom self.old.store decided.effect }
@@ -122,7 +122,7 @@ impl Session {
         ensures number { self.new.number ≡ self.old.number + 1 }
         ensures moment { self.new.moment ≡ self.old.moment }
     {
-        let Decided { reply, effect } = decided;
+        let StoreAnswer { reply, effect } = decided;
         self.enter(look, ask, reply);
         self.number += 1;
         self.store.apply(effect);
@@ -163,7 +163,7 @@ fn prepare(
     request: &Request,
     table: Option<u64>,
     moment: u64,
-) -> Result<(Decided, Outgoing), Memory>
+) -> Result<(StoreAnswer, Outgoing), Memory>
     requires in_form { IsInForm request.now.form.account request.now }
     requires table { table ≡ table_for store.old.tables.names request.now.ask }
     ensures decided { IfOk result (λ plan. IsDecided (held_by store.old) moment request.now.ask plan.0) }
@@ -177,7 +177,7 @@ fn prepare(
             Ok((decided, Outgoing::Reply(ReplyBytes::new(bytes))))
         }
         Err(_) => Ok((
-            Decided::denied(Denied::Memory),
+            StoreAnswer::denied(Denied::Memory),
             Outgoing::Fixed(memory_reply()),
         )),
     }

@@ -1,19 +1,19 @@
-ghost use Rattle.std.specs.Prelude.{◌≡◌, ℕ, [], IfOk, OnErr, Some};
+ghost use Rattle.std.specs.Prelude.{◌≡◌, ◌≤◌, ℕ, [], length, IfOk, OnErr, Some};
 ghost use Rattle.tab_drive.specs.Stores.{held_by, held_then, table_for, denied, answered, IsDecided, HasRoom, MayLack, found_or_not};
+ghost use Rattle.tab_ops.specs.Changes.{applied};
 ghost use Rattle.tab_page.specs.Pages.{page_below};
 ghost use Rattle.tab_rows.specs.Rows.{row_at};
 ghost use Rattle.tab_keys.specs.declared.bounds.Bound.TheVariants.{End};
 
-use crate::applying::apply_changes;
-use crate::paging::{AllKeys, whole_page};
+use crate::ranges::{AllKeys, whole_page};
 use crate::tables::Tables;
 use std::alloc::Global;
 use tab_edm::GREATEST;
 use tab_history::{Ask, Denied, Reply};
 use tab_keys::{Key, KeyText, Memory, TableName};
-use tab_ops::{Changes, Group, OpRefused, plan};
+use tab_ops::{ChangeList, Changes, Group, OpRefused, plan};
 use tab_page::Options;
-use tab_rows::Rows;
+use tab_rows::{Change, Rows};
 
 /// A store in memory: tables, and the rows of all of them.
 #[derive(Drop)]
@@ -30,7 +30,7 @@ pub struct Store {
 
 /// What a request comes to: its reply, and what it does to the store.
 #[derive(Drop)]
-pub struct Decided {
+pub struct StoreAnswer {
     pub reply: Reply,
     pub effect: Effect,
 }
@@ -69,7 +69,7 @@ impl Store {
         ask: &Ask,
         table: Option<u64>,
         moment: u64,
-    ) -> Result<Decided, Memory>
+    ) -> Result<StoreAnswer, Memory>
         requires { table ≡ table_for self.old.tables.names ask.now }
         ensures decided { IfOk result (λ decided. IsDecided (held_by self.old) moment ask.now decided) }
         ensures room { IfOk result (λ decided. HasRoom self.new decided.effect) }
@@ -82,47 +82,47 @@ impl Store {
             Ask::Tables { after, top } => self.decide_tables(alloc, after, *top),
             Ask::Get { pk, rk, .. } => match table {
                 Some(table) => self.decide_get(alloc, table, pk, rk),
-                None => Ok(Decided::denied(Denied::NoTable)),
+                None => Ok(StoreAnswer::denied(Denied::NoTable)),
             },
             Ask::Page { options, .. } => match table {
                 Some(table) => self.decide_page(alloc, table, options),
-                None => Ok(Decided::denied(Denied::NoTable)),
+                None => Ok(StoreAnswer::denied(Denied::NoTable)),
             },
             Ask::Change { group } => match table {
                 Some(table) => self.decide_change(alloc, table, group, moment),
-                None => Ok(Decided::denied(Denied::NoTable)),
+                None => Ok(StoreAnswer::denied(Denied::NoTable)),
             },
         }
     }
 
     /// A table to be made.
-    fn decide_create(&mut self, alloc: Global, name: &TableName) -> Result<Decided, Memory>
+    fn decide_create(&mut self, alloc: Global, name: &TableName) -> Result<StoreAnswer, Memory>
         ensures decided { IfOk result (λ decided. (moment : ℕ) → IsDecided (held_by self.old) moment (Ask.Create name.now) decided) }
         ensures room { IfOk result (λ decided. HasRoom self.new decided.effect) }
         ensures held { held_by self.new ≡ held_by self.old }
     {
         if self.tables.find(name).is_some() {
-            return Ok(Decided::denied(Denied::TableThere));
+            return Ok(StoreAnswer::denied(Denied::TableThere));
         }
         if self.next_table == u64::MAX {
-            return Ok(Decided::denied(Denied::IdsSpent));
+            return Ok(StoreAnswer::denied(Denied::IdsSpent));
         }
         self.tables.reserve_one()?;
-        Ok(Decided {
+        Ok(StoreAnswer {
             reply: Reply::Made(name.try_copy(alloc)?),
             effect: Effect::Create(name.try_copy(alloc)?),
         })
     }
 
     /// A table to be dropped.
-    fn decide_drop(&self, alloc: Global, name: &TableName) -> Result<Decided, Memory>
+    fn decide_drop(&self, alloc: Global, name: &TableName) -> Result<StoreAnswer, Memory>
         ensures decided { IfOk result (λ decided. (moment : ℕ) → IsDecided (held_by self.now) moment (Ask.Drop name.now) decided) }
         ensures room { IfOk result (λ decided. HasRoom self.now decided.effect) }
     {
         if self.tables.find(name).is_none() {
-            return Ok(Decided::denied(Denied::NoTable));
+            return Ok(StoreAnswer::denied(Denied::NoTable));
         }
-        Ok(Decided {
+        Ok(StoreAnswer {
             reply: Reply::Dropped,
             effect: Effect::Drop(name.try_copy(alloc)?),
         })
@@ -134,12 +134,12 @@ impl Store {
         alloc: Global,
         after: &Option<TableName>,
         top: u16,
-    ) -> Result<Decided, Memory>
+    ) -> Result<StoreAnswer, Memory>
         ensures decided { IfOk result (λ decided. (moment : ℕ) → IsDecided (held_by self.now) moment (Ask.Tables after.now top) decided) }
         ensures room { IfOk result (λ decided. HasRoom self.now decided.effect) }
     {
         let (names, next) = self.tables.list(alloc, after, top)?;
-        Ok(Decided::answered(Reply::Tables { names, next }))
+        Ok(StoreAnswer::answered(Reply::Tables { names, next }))
     }
 
     /// The row at a key, if one is there.
@@ -149,7 +149,7 @@ impl Store {
         table: u64,
         pk: &KeyText,
         rk: &KeyText,
-    ) -> Result<Decided, Memory>
+    ) -> Result<StoreAnswer, Memory>
         ensures { IfOk result (λ decided. decided ≡ answered (found_or_not (row_at self.now.rows.rows (record { table = table; pk = pk.now; rk = rk.now })))) }
     {
         let key = Key {
@@ -158,17 +158,17 @@ impl Store {
             rk: rk.try_copy(alloc)?,
         };
         match self.rows.get(&key) {
-            Some(row) => Ok(Decided::answered(Reply::Found(row.try_copy(alloc)?))),
-            None => Ok(Decided::denied(Denied::NotFound)),
+            Some(row) => Ok(StoreAnswer::answered(Reply::Found(row.try_copy(alloc)?))),
+            None => Ok(StoreAnswer::denied(Denied::NotFound)),
         }
     }
 
     /// The page that a query asks for.
-    fn decide_page(&self, alloc: Global, table: u64, options: &Options) -> Result<Decided, Memory>
+    fn decide_page(&self, alloc: Global, table: u64, options: &Options) -> Result<StoreAnswer, Memory>
         ensures { IfOk result (λ decided. decided ≡ answered (Reply.Listed (page_below self.now.rows.rows table options.now End))) }
     {
         let page = whole_page(alloc, &self.rows, table, &self.all_keys, options)?;
-        Ok(Decided::answered(Reply::Listed(page)))
+        Ok(StoreAnswer::answered(Reply::Listed(page)))
     }
 
     /// The changes of a group, or why it makes none.
@@ -178,25 +178,25 @@ impl Store {
         table: u64,
         group: &Group,
         moment: u64,
-    ) -> Result<Decided, Memory>
+    ) -> Result<StoreAnswer, Memory>
         ensures decided { IfOk result (λ decided. Some table ≡ table_for self.old.tables.names (Ask.Change group.now) → IsDecided (held_by self.old) moment (Ask.Change group.now) decided) }
         ensures room { IfOk result (λ decided. HasRoom self.new decided.effect) }
         ensures held { held_by self.new ≡ held_by self.old }
     {
         let tick = moment.max(self.next_tick);
         if tick > GREATEST {
-            return Ok(Decided::denied(Denied::TimeSpent));
+            return Ok(StoreAnswer::denied(Denied::TimeSpent));
         }
         match plan(alloc, &self.rows, table, group, tick) {
             Ok(changes) => {
                 self.rows.reserve(changes.list.len())?;
-                Ok(Decided {
+                Ok(StoreAnswer {
                     reply: Reply::Changed(tick),
                     effect: Effect::Change(changes),
                 })
             }
             Err(OpRefused::Memory) => Err(Memory),
-            Err(why) => Ok(Decided::denied(Denied::Op(why))),
+            Err(why) => Ok(StoreAnswer::denied(Denied::Op(why))),
         }
     }
 
@@ -220,21 +220,38 @@ impl Store {
     }
 }
 
-impl Decided {
+impl StoreAnswer {
     /// A request that is denied.
-    pub fn denied(why: Denied) -> Decided
+    pub fn denied(why: Denied) -> StoreAnswer
         ensures { result ≡ denied why }
     {
-        Decided::answered(Reply::Denied(why))
+        StoreAnswer::answered(Reply::Denied(why))
     }
 
     /// A request that is answered, and changes nothing.
-    fn answered(reply: Reply) -> Decided
+    fn answered(reply: Reply) -> StoreAnswer
         ensures { result ≡ answered reply }
     {
-        Decided {
+        StoreAnswer {
             reply,
             effect: Effect::Nothing,
+        }
+    }
+}
+
+/// Makes the changes, for which there is room.
+fn apply_changes(rows: &mut Rows, changes: ChangeList)
+    requires { length changes ≤ rows.old.spare }
+    ensures { rows.new.rows ≡ applied rows.old.rows changes }
+{
+    for change in changes.into_vec() {
+        match change {
+            Change::Put(row) => {
+                rows.put(row);
+            }
+            Change::Take(key) => {
+                rows.take(&key);
+            }
         }
     }
 }

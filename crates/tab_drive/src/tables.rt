@@ -56,8 +56,8 @@ impl Tables {
     pub fn find(&self, name: &TableName) -> Option<u64>
         ensures { result ≡ table_of self.now.names name.now }
     {
-        let place = find_place(self.tables.as_slice(), name)?;
-        Some(self.tables[place].number)
+        let index = find_index(self.tables.as_slice(), name)?;
+        Some(self.tables[index].number)
     }
 
     /// Finds memory for one more table.
@@ -74,16 +74,16 @@ impl Tables {
         requires absent { table_of self.old.names name ≡ None }
         ensures { self.new.names ≡ with_name self.old.names (record { spelling = name; table = number }) }
     {
-        let place = count_below(self.tables.as_slice(), &name);
-        let _ = self.tables.insert(place, Table { name, number });
+        let index = count_below(self.tables.as_slice(), &name);
+        let _ = self.tables.insert(index, Table { name, number });
     }
 
     /// Takes the table of that name away, whatever its case, if there is one.
     pub fn take(&mut self, name: &TableName)
         ensures { self.new.names ≡ without_name self.old.names name.now }
     {
-        if let Some(place) = find_place(self.tables.as_slice(), name) {
-            let _ = self.tables.remove(place);
+        if let Some(index) = find_index(self.tables.as_slice(), name) {
+            let _ = self.tables.remove(index);
         }
     }
 
@@ -107,7 +107,7 @@ impl Tables {
 }
 
 // Where the table of that name stands among tables in order.
-fn find_place(tables: &[Table], name: &TableName) -> Option<usize>
+fn find_index(tables: &[Table], name: &TableName) -> Option<usize>
     requires { AreInOrder tables.now }
     ensures { MatchOption result (table_of tables.now name.now ≡ None) (StandsAt tables.now name.now) }
 {
@@ -155,11 +155,11 @@ fn names_of(alloc: Global, tables: &[Table]) -> Result<TableNames, Memory>
     Ok(TableNames::new(names))
 }
 
-// A copy of the name of the table at this place, where there is one.
-fn name_at(alloc: Global, tables: &[Table], place: u16) -> Result<Option<TableName>, Memory>
-    ensures { IfOk result (λ name. name ≡ slice_get (spellings tables.now) place) }
+// A copy of the name of the table at this index, where there is one.
+fn name_at(alloc: Global, tables: &[Table], index: u16) -> Result<Option<TableName>, Memory>
+    ensures { IfOk result (λ name. name ≡ slice_get (spellings tables.now) index) }
 {
-    match tables.get(usize::from(place)) {
+    match tables.get(usize::from(index)) {
         Some(table) => Ok(Some(table.name.try_copy(alloc)?)),
         None => Ok(None),
     }

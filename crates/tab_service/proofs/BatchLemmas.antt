@@ -6,16 +6,16 @@ use Rattle.tab_service.specs.Batches.{Operations, refused_at, with_part, part_of
 use Rattle.tab_batch.specs.Refusals.{IsBatch, Refuses, IsDecided}
 use Rattle.tab_batch.specs.declared.refusals.BatchRefused.{BatchRefused}
 use Rattle.tab_service.specs.declared.forms.Request.{Request}
-use Rattle.tab_service.specs.declared.batches.Refused.{Refused}
+use Rattle.tab_service.specs.declared.batches.PartRefusal.{PartRefusal}
 use Rattle.tab_service.specs.declared.refusals.Refusal.{Refusal}
-use Rattle.tab_service.specs.declared.writes.Part.{Part}
+use Rattle.tab_service.specs.declared.writes.Operation.{Operation}
 
 -- more operations behind these
-abbrev pub behind : Operations → Result Operations Refused → Result Operations Refused
+abbrev pub behind : Operations → Result Operations PartRefusal → Result Operations PartRefusal
 behind front (Err refused) = Err refused
 behind front (Ok more) = Ok (front.0 ++ more.0, front.1 ++ more.1)
 
-behind_part : (front : Operations) (index : ℕ) (part : Part) (more : Result Operations Refused)
+behind_part : (front : Operations) (index : ℕ) (part : Operation) (more : Result Operations PartRefusal)
     → behind front (with_part index (Ok part) more) ≡ behind (front.0 ++ part.item ∷ [], front.1 ++ part.form ∷ []) more
 behind_part front index part (Err refused) = refl
 behind_part front index part (Ok more) = simp append_assoc
@@ -26,18 +26,18 @@ unfolding operations_from
 one_more index account messages message within is = rw (drop-cons messages index message, ← is, add-one) refl
 
 -- a part that is an operation
-pub read_part : (index : ℕ) (account : List ℕ) (messages : List Message) (message : Message) (front : Operations) (part : Part) → index < length messages → message ≡ get_or messages index message
+pub read_part : (index : ℕ) (account : List ℕ) (messages : List Message) (message : Message) (front : Operations) (part : Operation) → index < length messages → message ≡ get_or messages index message
     → Ok part ≡ part_of account message
     → behind front (operations_from index account (drop index messages)) ≡ behind (front.0 ++ part.item ∷ [], front.1 ++ part.form ∷ []) (operations_from (index + 1) account (drop (index + 1) messages))
 read_part index account messages message front part within is found =
-    ap (behind front) (one_more index account messages message within is ∙ ap (λ (p : Result Part Refusal). with_part index p (operations_from (index + 1) account (drop (index + 1) messages))) (sym found))
+    ap (behind front) (one_more index account messages message within is ∙ ap (λ (p : Result Operation Refusal). with_part index p (operations_from (index + 1) account (drop (index + 1) messages))) (sym found))
     ∙ behind_part front index part (operations_from (index + 1) account (drop (index + 1) messages))
 
 -- a part that is refused
 pub refused_part : (index : ℕ) (account : List ℕ) (messages : List Message) (message : Message) (front : Operations) (why : Refusal) → index < length messages → message ≡ get_or messages index message
     → Err why ≡ part_of account message → behind front (operations_from index account (drop index messages)) ≡ Err (refused_at index why)
 refused_part index account messages message front why within is found =
-    ap (behind front) (one_more index account messages message within is ∙ ap (λ (p : Result Part Refusal). with_part index p (operations_from (index + 1) account (drop (index + 1) messages))) (sym found))
+    ap (behind front) (one_more index account messages message within is ∙ ap (λ (p : Result Operation Refusal). with_part index p (operations_from (index + 1) account (drop (index + 1) messages))) (sym found))
 
 nothing_more : (front : Operations) → behind front (Ok ([], [])) ≡ Ok front
 nothing_more front = simp append-nil
@@ -51,7 +51,7 @@ all_read index account messages front within =
 -- ---- bodies
 
 -- the body gives its requests
-pub batch_read : (account : List ℕ) (minimal : Bool) (message : Message) (boundary bytes : List ℕ) (messages seen : List Message) (found : Result Request Refused)
+pub batch_read : (account : List ℕ) (minimal : Bool) (message : Message) (boundary bytes : List ℕ) (messages seen : List Message) (found : Result Request PartRefusal)
     → Some boundary ≡ boundary_in message.headers → bytes ≡ message.body → seen ≡ messages → IsBatch boundary bytes messages
     → found ≡ grouped_request account minimal (operations_from 0 account seen) → IsBatchOf account minimal message found
 unfolding IsBatchOf
@@ -62,12 +62,12 @@ batch_read account minimal message boundary bytes messages seen found named body
     subst (λ (b : Option (List ℕ)). IsReadUnder account minimal message.body b found) named read
 
 -- the body is refused
-pub batch_unread : (account : List ℕ) (minimal : Bool) (message : Message) (boundary bytes : List ℕ) (why : BatchRefused) (refused : Refused)
+pub batch_unread : (account : List ℕ) (minimal : Bool) (message : Message) (boundary bytes : List ℕ) (why : BatchRefused) (refused : PartRefusal)
     → Some boundary ≡ boundary_in message.headers → bytes ≡ message.body → Refuses boundary bytes why → IsDecided why → refused ≡ unread why
     → IsBatchOf account minimal message (Err refused)
 unfolding IsBatchOf
 batch_unread account minimal message boundary bytes why refused named body is decided made =
     let refuses : Refuses boundary message.body why = subst (λ (b : List ℕ). Refuses boundary b why) body is in
-    let makes : ◌≡◌ {A = Result Request Refused} (Err refused) (Err (unread why)) = ap (λ (r : Refused). Err r) made in
+    let makes : ◌≡◌ {A = Result Request PartRefusal} (Err refused) (Err (unread why)) = ap (λ (r : PartRefusal). Err r) made in
     let read : IsReadUnder account minimal message.body (Some boundary) (Err refused) = (Err why, (decided, refuses), makes) in
     subst (λ (b : Option (List ℕ)). IsReadUnder account minimal message.body b (Err refused)) named read

@@ -18,11 +18,11 @@ use Rattle.tab_service.specs.Signing.{signed_of}
 use Rattle.tab_service.specs.TableQueries.{unless_refused, table_window}
 use Rattle.tab_service.specs.Preferences.{format_for, format_with_body, preference_for}
 use Rattle.tab_service.specs.Conditions.{condition_for, needed_condition}
-use Rattle.tab_service.specs.Requests.{tables_request, create_request, drop_request, page_request, row_request, change_part, single, table_name, row_keys, body_name, query_options, query_select, read_body, given_keys, entity_for, op_for, insert_from, write_from, decided_tables, decided_create, decided_drop, decided_page, decided_row, decided_insert, decided_write, decided_delete, change_in_rows, change_of_row, resource_at}
+use Rattle.tab_service.specs.Requests.{tables_request, create_request, drop_request, page_request, row_request, change_operation, single, table_name, row_keys, body_name, query_options, query_select, read_body, given_keys, entity_for, op_for, insert_from, write_from, decided_tables, decided_create, decided_drop, decided_page, decided_row, decided_insert, decided_write, decided_delete, change_in_rows, change_of_row, resource_at}
 use Rattle.tab_service.specs.Forms.{IsPartOf, ArePartsOf, IsInForm}
 use Rattle.tab_service.specs.Batches.{Operations, part_on, part_of, with_part, operations_from, request_for, grouped_request, batch_request, boundary_in, IsReadUnder, IsBatchOf}
 use Rattle.tab_service.specs.Decisions.{on_tables, on_table, on_rows, on_row, on_batch, one_request, decided_on, decided_at, unless_denied, asked_of, answered, ComesTo, IsDecision}
-use Rattle.tab_service.specs.declared.batches.Refused.{Refused}
+use Rattle.tab_service.specs.declared.batches.PartRefusal.{PartRefusal}
 use Rattle.tab_service.specs.declared.decisions.Asked.{Asked}
 use Rattle.tab_service.specs.declared.decisions.Asked.TheVariants.{One, Many}
 use Rattle.tab_service.specs.declared.decisions.Decided.{Decided}
@@ -35,7 +35,7 @@ use Rattle.tab_service.specs.declared.refusals.Refusal.{Refusal}
 use Rattle.tab_service.specs.declared.refusals.Refusal.TheVariants.{Method}
 use Rattle.tab_service.specs.declared.targets.Resource.{Resource}
 use Rattle.tab_service.specs.declared.targets.Resource.TheVariants.{Tables, Table, Rows, Row, Batch}
-use Rattle.tab_service.specs.declared.writes.Part.{Part}
+use Rattle.tab_service.specs.declared.writes.Operation.{Operation}
 use Rattle.tab_service.specs.declared.writes.Writing.{Writing}
 use Rattle.tab_service.specs.declared.writes.Writing.TheVariants.{Replacing, Merging}
 
@@ -43,10 +43,10 @@ abbrev Keeps : List ℕ → Result Request Refusal → Type 0
 Keeps account decided = IfOk decided (λ request. IsInForm account request)
 
 -- the form is that of the operation
-abbrev OfItem : Part → Type 0
+abbrev OfItem : Operation → Type 0
 OfItem part = IsPartOf part.item part.form
 
-abbrev IsSound : Result Part Refusal → Type 0
+abbrev IsSound : Result Operation Refusal → Type 0
 IsSound decided = IfOk decided OfItem
 
 -- what comes of anything that was found
@@ -103,8 +103,8 @@ row_keeps account query headers name keys =
 
 insert_from_sound : (minimal : Bool) (prefer : Prefer) (name : List ℕ) (body : BodyEntity) → IsSound (insert_from minimal prefer name body)
 insert_from_sound minimal prefer name body =
-    through OfItem (given_keys body) (λ keys. unless_refused (entity_for keys body) (λ entity. Ok (change_part minimal prefer name keys (Insert entity))))
-    (λ keys. made OfItem (entity_for keys body) (λ entity. change_part minimal prefer name keys (Insert entity))
+    through OfItem (given_keys body) (λ keys. unless_refused (entity_for keys body) (λ entity. Ok (change_operation minimal prefer name keys (Insert entity))))
+    (λ keys. made OfItem (entity_for keys body) (λ entity. change_operation minimal prefer name keys (Insert entity))
     (λ entity. record { insert = refl; delete = refl; prefer = tt }))
 
 insert_sound : (headers : List Header) (name body : List ℕ) → IsSound (decided_insert headers name body)
@@ -115,7 +115,7 @@ insert_sound headers name body =
     (λ given. insert_from_sound minimal (preference_for headers) name given))
 
 op_sound : (minimal : Bool) (name : List ℕ) (keys : List ℕ × List ℕ) (writing : Writing) (entity : EntityView) (condition : Option Match)
-    → IsPartOf (change_part minimal Unsaid name keys (op_for writing entity condition)).item (change_part minimal Unsaid name keys (op_for writing entity condition)).form
+    → IsPartOf (change_operation minimal Unsaid name keys (op_for writing entity condition)).item (change_operation minimal Unsaid name keys (op_for writing entity condition)).form
 op_sound minimal name keys Replacing entity None = record { insert = refl; delete = refl; prefer = refl }
 op_sound minimal name keys Replacing entity (Some condition) = record { insert = refl; delete = refl; prefer = refl }
 op_sound minimal name keys Merging entity None = record { insert = refl; delete = refl; prefer = refl }
@@ -124,7 +124,7 @@ op_sound minimal name keys Merging entity (Some condition) = record { insert = r
 write_from_sound : (minimal : Bool) (writing : Writing) (name : List ℕ) (keys : List ℕ × List ℕ) (condition : Option Match) (body : BodyEntity)
     → IsSound (write_from minimal writing name keys condition body)
 write_from_sound minimal writing name keys condition body =
-    made OfItem (entity_for keys body) (λ entity. change_part minimal Unsaid name keys (op_for writing entity condition)) (λ entity. op_sound minimal name keys writing entity condition)
+    made OfItem (entity_for keys body) (λ entity. change_operation minimal Unsaid name keys (op_for writing entity condition)) (λ entity. op_sound minimal name keys writing entity condition)
 
 write_sound : (headers : List Header) (name : List ℕ) (keys : List ℕ × List ℕ) (writing : Writing) (body : List ℕ) → IsSound (decided_write headers name keys writing body)
 unfolding decided_write
@@ -137,9 +137,9 @@ write_sound headers name keys writing body =
 delete_sound : (headers : List Header) (name : List ℕ) (keys : List ℕ × List ℕ) → IsSound (decided_delete headers name keys)
 unfolding decided_delete
 delete_sound headers name keys =
-    through OfItem (format_for headers) (λ minimal. unless_refused (condition_for headers) (λ found. unless_refused (needed_condition found) (λ condition. Ok (change_part minimal Unsaid name keys (Delete condition)))))
-    (λ minimal. through OfItem (condition_for headers) (λ found. unless_refused (needed_condition found) (λ condition. Ok (change_part minimal Unsaid name keys (Delete condition))))
-    (λ found. made OfItem (needed_condition found) (λ condition. change_part minimal Unsaid name keys (Delete condition)) (λ condition. record { insert = refl; delete = refl; prefer = refl })))
+    through OfItem (format_for headers) (λ minimal. unless_refused (condition_for headers) (λ found. unless_refused (needed_condition found) (λ condition. Ok (change_operation minimal Unsaid name keys (Delete condition)))))
+    (λ minimal. through OfItem (condition_for headers) (λ found. unless_refused (needed_condition found) (λ condition. Ok (change_operation minimal Unsaid name keys (Delete condition))))
+    (λ found. made OfItem (needed_condition found) (λ condition. change_operation minimal Unsaid name keys (Delete condition)) (λ condition. record { insert = refl; delete = refl; prefer = refl })))
 
 in_rows_sound : (message : Message) (name : List ℕ) → IsSound (change_in_rows message name)
 unfolding change_in_rows
@@ -152,14 +152,14 @@ of_row_sound message name keys =
     let is_merge = bytes_eq message.method (codes "MERGE") || bytes_eq message.method (codes "PATCH") in
     let replace = decided_write message.headers name keys Replacing message.body in
     let merge = decided_write message.headers name keys Merging message.body in
-    let deletes : Result Part Refusal = if bytes_eq message.method (codes "DELETE") then decided_delete message.headers name keys else Err Method in
-    let merges : Result Part Refusal = if is_merge then merge else deletes in
+    let deletes : Result Operation Refusal = if bytes_eq message.method (codes "DELETE") then decided_delete message.headers name keys else Err Method in
+    let merges : Result Operation Refusal = if is_merge then merge else deletes in
     either OfItem (bytes_eq message.method (codes "PUT")) replace merges (write_sound message.headers name keys Replacing message.body)
     (either OfItem is_merge merge deletes (write_sound message.headers name keys Merging message.body)
     (either OfItem (bytes_eq message.method (codes "DELETE")) (decided_delete message.headers name keys) (Err Method) (delete_sound message.headers name keys) tt))
 
 -- the request for one operation
-single_keeps : (account : List ℕ) (part : Result Part Refusal) → IsSound part → Keeps account (single account part)
+single_keeps : (account : List ℕ) (part : Result Operation Refusal) → IsSound part → Keeps account (single account part)
 single_keeps account (Ok part) is = record { of_account = refl; suits = ((is, tt), refl) }
 single_keeps account (Err why) is = tt
 
@@ -252,10 +252,10 @@ part_sound : (account : List ℕ) (message : Message) → IsSound (part_of accou
 unfolding part_of
 part_sound account message = through OfItem (resource_at account message) (λ resource. part_on message resource) (λ resource. part_on_sound message resource)
 
-abbrev AreSound : Result Operations Refused → Type 0
+abbrev AreSound : Result Operations PartRefusal → Type 0
 AreSound found = IfOk found (λ operations. ArePartsOf operations.0 operations.1)
 
-with_sound : (index : ℕ) (part : Result Part Refusal) (more : Result Operations Refused) → IsSound part → AreSound more → AreSound (with_part index part more)
+with_sound : (index : ℕ) (part : Result Operation Refusal) (more : Result Operations PartRefusal) → IsSound part → AreSound more → AreSound (with_part index part more)
 with_sound index (Err why) more is are = tt
 with_sound index (Ok part) (Err refused) is are = tt
 with_sound index (Ok part) (Ok more) is are = (is, are)
@@ -266,7 +266,7 @@ operations_sound index account [] = tt
 operations_sound index account (message ∷ messages) =
     with_sound index (part_of account message) (operations_from (index + 1) account messages) (part_sound account message) (operations_sound (index + 1) account messages)
 
-abbrev KeepsBatch : List ℕ → Result Request Refused → Type 0
+abbrev KeepsBatch : List ℕ → Result Request PartRefusal → Type 0
 KeepsBatch account found = IfOk found (λ request. IsInForm account request)
 
 group_keeps : (account : List ℕ) (minimal : Bool) (items : List ItemView) (parts : List PartForm) (why : Option GroupRefused) → ArePartsOf items parts
@@ -274,7 +274,7 @@ group_keeps : (account : List ℕ) (minimal : Bool) (items : List ItemView) (par
 group_keeps account minimal items parts None are = record { of_account = refl; suits = are }
 group_keeps account minimal items parts (Some why) are = tt
 
-grouped_keeps : (account : List ℕ) (minimal : Bool) (found : Result Operations Refused) → AreSound found → KeepsBatch account (grouped_request account minimal found)
+grouped_keeps : (account : List ℕ) (minimal : Bool) (found : Result Operations PartRefusal) → AreSound found → KeepsBatch account (grouped_request account minimal found)
 grouped_keeps account minimal (Ok operations) are = group_keeps account minimal operations.0 operations.1 (group_refusal operations.0) are
 grouped_keeps account minimal (Err refused) are = tt
 
@@ -282,11 +282,11 @@ answer_keeps : (account : List ℕ) (minimal : Bool) (answer : Answer) → Keeps
 answer_keeps account minimal (Ok messages) = grouped_keeps account minimal (operations_from 0 account messages) (operations_sound 0 account messages)
 answer_keeps account minimal (Err why) = tt
 
-under_keeps : (account : List ℕ) (minimal : Bool) (body : List ℕ) (boundary : Option (List ℕ)) (found : Result Request Refused) → IsReadUnder account minimal body boundary found → KeepsBatch account found
+under_keeps : (account : List ℕ) (minimal : Bool) (body : List ℕ) (boundary : Option (List ℕ)) (found : Result Request PartRefusal) → IsReadUnder account minimal body boundary found → KeepsBatch account found
 under_keeps account minimal body None found is = subst (KeepsBatch account) (sym is) tt
 under_keeps account minimal body (Some boundary) found is = subst (KeepsBatch account) (sym is.2) (answer_keeps account minimal is.0)
 
-many_keep : (account : List ℕ) (minimal : Bool) (message : Message) (found : Result Request Refused) → IsBatchOf account minimal message found → KeepsBatch account found
+many_keep : (account : List ℕ) (minimal : Bool) (message : Message) (found : Result Request PartRefusal) → IsBatchOf account minimal message found → KeepsBatch account found
 unfolding IsBatchOf
 many_keep account minimal message found is = under_keeps account minimal message.body (boundary_in message.headers) found is
 
@@ -298,7 +298,7 @@ go_is a b e = cc
 no_go : (bytes : List ℕ) (b : Request) → Go b ≡ No bytes → ⊥
 no_go bytes b e = cc
 
-gone : (account : List ℕ) (found : Result Request Refused) (request : Request) → KeepsBatch account found → Go request ≡ answered found → IsInForm account request
+gone : (account : List ℕ) (found : Result Request PartRefusal) (request : Request) → KeepsBatch account found → Go request ≡ answered found → IsInForm account request
 gone account (Ok found) request keeps is = let same = go_is request found is in rw same keeps
 gone account (Err refused) request keeps is = absurd (no_go _ request is)
 
@@ -316,11 +316,11 @@ requests_are_in_form keys now message request is = come_in_form keys.account mes
 abbrev pub HaveOneAnswer : Type 0
 HaveOneAnswer = (boundary bytes : List ℕ) (a b : Answer) → IsBatchAnswer boundary bytes a → IsBatchAnswer boundary bytes b → a ≡ b
 
-one_read : HaveOneAnswer → (account : List ℕ) (minimal : Bool) (body : List ℕ) (boundary : Option (List ℕ)) (a b : Result Request Refused) → IsReadUnder account minimal body boundary a → IsReadUnder account minimal body boundary b → a ≡ b
+one_read : HaveOneAnswer → (account : List ℕ) (minimal : Bool) (body : List ℕ) (boundary : Option (List ℕ)) (a b : Result Request PartRefusal) → IsReadUnder account minimal body boundary a → IsReadUnder account minimal body boundary b → a ≡ b
 one_read law account minimal body None a b p q = p ∙ sym q
 one_read law account minimal body (Some boundary) a b p q = p.2 ∙ ap (batch_request account minimal) (law boundary body p.0 q.0 p.1 q.1) ∙ sym q.2
 
-one_batch : HaveOneAnswer → (account : List ℕ) (minimal : Bool) (message : Message) (a b : Result Request Refused) → IsBatchOf account minimal message a → IsBatchOf account minimal message b → a ≡ b
+one_batch : HaveOneAnswer → (account : List ℕ) (minimal : Bool) (message : Message) (a b : Result Request PartRefusal) → IsBatchOf account minimal message a → IsBatchOf account minimal message b → a ≡ b
 unfolding IsBatchOf
 one_batch law account minimal message a b p q = one_read law account minimal message.body (boundary_in message.headers) a b p q
 

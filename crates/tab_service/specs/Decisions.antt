@@ -11,7 +11,7 @@ use Rattle.tab_service.specs.Refusals.{refusal_text}
 use Rattle.tab_service.specs.TableQueries.{unless_refused}
 use Rattle.tab_service.specs.Requests.{single, table_name, row_keys, decided_tables, decided_create, decided_drop, decided_page, decided_row, change_in_rows, change_of_row, resource_at}
 use Rattle.tab_service.specs.Batches.{IsBatchOf}
-use Rattle.tab_service.specs.declared.batches.Refused.{Refused}
+use Rattle.tab_service.specs.declared.batches.PartRefusal.{PartRefusal}
 use Rattle.tab_service.specs.declared.decisions.Asked.{Asked}
 use Rattle.tab_service.specs.declared.decisions.Asked.TheVariants.{One, Many}
 use Rattle.tab_service.specs.declared.decisions.Decided.{Decided}
@@ -87,15 +87,15 @@ unfoldable pub asked_of : Keys → ℕ → Message → Result Asked Refusal
 asked_of keys now message = unless_denied (refusal keys (signed_of message) now) (decided_at keys.account message)
 
 -- what a request, or a batch, comes to
-abbrev pub answered : Result Request Refused → Decided
+abbrev pub answered : Result Request PartRefusal → Decided
 answered (Ok request) = Go request
-answered (Err refused) = No (refusal_text refused.place refused.why)
+answered (Err refused) = No (refusal_text refused.index refused.why)
 
 -- What a message comes to. The body of a batch gives the requests of its parts, or is refused.
 abbrev pub ComesTo : List ℕ → Message → Result Asked Refusal → Decided → Type 0
 ComesTo account message (Err why) decided = decided ≡ No (refusal_text None why)
 ComesTo account message (Ok (One request)) decided = decided ≡ Go request
-ComesTo account message (Ok (Many minimal)) decided = (found : Result Request Refused) × IsBatchOf account minimal message found × (decided ≡ answered found)
+ComesTo account message (Ok (Many minimal)) decided = (found : Result Request PartRefusal) × IsBatchOf account minimal message found × (decided ≡ answered found)
 
 abbrev pub IsDecision : Keys → ℕ → Message → Decided → Type 0
 IsDecision keys now message decided = ComesTo keys.account message (asked_of keys now message) decided

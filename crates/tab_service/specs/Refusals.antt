@@ -19,92 +19,92 @@ use Rattle.tab_http.specs.declared.refusals.HttpRefused.TheVariants.{EndBetween,
 use Rattle.tab_batch.specs.declared.refusals.BatchRefused.{BatchRefused}
 use Rattle.tab_batch.specs.declared.refusals.BatchRefused.TheVariants.{BadMultipart, BadPart, Memory as NoMemoryForParts}
 use Rattle.tab_service.specs.Causes as cause
-use Rattle.tab_service.specs.Replies.{told, told_at}
+use Rattle.tab_service.specs.Replies.{error_text, error_text_at}
 use Rattle.tab_service.specs.declared.refusals.Refusal.{Refusal}
 use Rattle.tab_service.specs.declared.refusals.Refusal.TheVariants.{Auth, Path, Name, Key, Method, Format, Options, FilterOfTables, Condition, NoCondition, Body, NoTableName, KeysMissing, Entity, NoBoundary, Multipart, Group}
 
 unfoldable pub auth_fault : Option ℕ → AuthRefused → List ℕ
-auth_fault place Missing = told_at place cause.not_signed
-auth_fault place UnknownAccount = told_at place cause.unknown_account
-auth_fault place DateUnread = told_at place cause.date_unread
-auth_fault place TooOld = told_at place cause.too_old
-auth_fault place TooEarly = told_at place cause.too_early
-auth_fault place Differs = told_at place cause.signature_differs
-auth_fault place NoMemoryToSign = told_at place cause.no_memory
+auth_fault index Missing = error_text_at index cause.not_signed
+auth_fault index UnknownAccount = error_text_at index cause.unknown_account
+auth_fault index DateUnread = error_text_at index cause.date_unread
+auth_fault index TooOld = error_text_at index cause.too_old
+auth_fault index TooEarly = error_text_at index cause.too_early
+auth_fault index Differs = error_text_at index cause.signature_differs
+auth_fault index NoMemoryToSign = error_text_at index cause.no_memory
 
 unfoldable pub key_fault : Option ℕ → KeyRefused → List ℕ
-key_fault place TooLong = told_at place cause.key_too_long
-key_fault place BadCharacter = told_at place cause.bad_character
-key_fault place NoMemoryForKey = told_at place cause.no_memory
+key_fault index TooLong = error_text_at index cause.key_too_long
+key_fault index BadCharacter = error_text_at index cause.bad_character
+key_fault index NoMemoryForKey = error_text_at index cause.no_memory
 
 unfoldable pub filter_fault : Option ℕ → FilterRefused → List ℕ
-filter_fault place (Syntax at) = told_at place (cause.filter_unread at)
-filter_fault place TooManyComparisons = told_at place cause.too_many_comparisons
-filter_fault place (BadLiteral at) = told_at place (cause.bad_literal at)
-filter_fault place NoMemoryForFilter = told_at place cause.no_memory
+filter_fault index (Syntax offset) = error_text_at index (cause.filter_unread offset)
+filter_fault index TooManyComparisons = error_text_at index cause.too_many_comparisons
+filter_fault index (BadLiteral offset) = error_text_at index (cause.bad_literal offset)
+filter_fault index NoMemoryForFilter = error_text_at index cause.no_memory
 
 unfoldable pub option_fault : Option ℕ → OptionRefused → List ℕ
-option_fault place BadOption = told_at place cause.doubled_option
-option_fault place BadTop = told_at place cause.bad_top
-option_fault place BadToken = told_at place cause.bad_token
-option_fault place (Filter why) = filter_fault place why
-option_fault place NoMemoryForOptions = told_at place cause.no_memory
+option_fault index BadOption = error_text_at index cause.doubled_option
+option_fault index BadTop = error_text_at index cause.bad_top
+option_fault index BadToken = error_text_at index cause.bad_token
+option_fault index (Filter why) = filter_fault index why
+option_fault index NoMemoryForOptions = error_text_at index cause.no_memory
 
 unfoldable pub body_fault : Option ℕ → JsonRefused → List ℕ
-body_fault place NotJson = told_at place cause.no_object
-body_fault place NotObject = told_at place cause.no_object
-body_fault place (ValueType name) = told_at place (cause.wrong_type name)
-body_fault place (BodyKey why) = key_fault place why
-body_fault place NoMemoryForBody = told_at place cause.no_memory
+body_fault index NotJson = error_text_at index cause.no_object
+body_fault index NotObject = error_text_at index cause.no_object
+body_fault index (ValueType name) = error_text_at index (cause.wrong_type name)
+body_fault index (BodyKey why) = key_fault index why
+body_fault index NoMemoryForBody = error_text_at index cause.no_memory
 
 unfoldable pub entity_fault : Option ℕ → EdmRefused → List ℕ
-entity_fault place (NameInvalid property) = told_at place (cause.bad_property_name property.name)
-entity_fault place (NameTooLong property) = told_at place cause.long_property_name
-entity_fault place (ValueTooLarge property) = told_at place (cause.large_value property.name)
-entity_fault place TooMany = told_at place cause.too_many_properties
-entity_fault place TooLarge = told_at place cause.entity_too_large
-entity_fault place NoMemoryForEntity = told_at place cause.no_memory
+entity_fault index (NameInvalid property) = error_text_at index (cause.bad_property_name property.name)
+entity_fault index (NameTooLong property) = error_text_at index cause.long_property_name
+entity_fault index (ValueTooLarge property) = error_text_at index (cause.large_value property.name)
+entity_fault index TooMany = error_text_at index cause.too_many_properties
+entity_fault index TooLarge = error_text_at index cause.entity_too_large
+entity_fault index NoMemoryForEntity = error_text_at index cause.no_memory
 
 unfoldable pub multipart_fault : Option ℕ → BatchRefused → List ℕ
-multipart_fault place (BadMultipart at) = told_at place (cause.multipart_unread at)
-multipart_fault place (BadPart index) = told_at place cause.no_request
-multipart_fault place NoMemoryForParts = told_at place cause.no_memory
+multipart_fault index (BadMultipart offset) = error_text_at index (cause.multipart_unread offset)
+multipart_fault index (BadPart _) = error_text_at index cause.no_request
+multipart_fault index NoMemoryForParts = error_text_at index cause.no_memory
 
 unfoldable pub group_fault : Option ℕ → GroupRefused → List ℕ
-group_fault place Empty = told_at place cause.empty_change_set
-group_fault place TooManyOperations = told_at place cause.too_many_operations
-group_fault place (MixedPartitions index) = told_at place cause.mixed_partitions
-group_fault place (DoubledRow index) = told_at place cause.doubled_row
-group_fault place NoMemoryForGroup = told_at place cause.no_memory
+group_fault index Empty = error_text_at index cause.empty_change_set
+group_fault index TooManyOperations = error_text_at index cause.too_many_operations
+group_fault index (MixedPartitions _) = error_text_at index cause.mixed_partitions
+group_fault index (DoubledRow _) = error_text_at index cause.doubled_row
+group_fault index NoMemoryForGroup = error_text_at index cause.no_memory
 
--- the reply to a refused request, or to a batch of which the part at this place is refused
+-- the reply to a refused request, or to a batch of which the part of this index is refused
 unfoldable pub refusal_text : Option ℕ → Refusal → List ℕ
-refusal_text place (Auth why) = auth_fault place why
-refusal_text place Path = told_at place cause.no_path
-refusal_text place Name = told_at place cause.bad_name
-refusal_text place (Key why) = key_fault place why
-refusal_text place Method = told_at place cause.wrong_method
-refusal_text place Format = told_at place cause.not_json_format
-refusal_text place (Options why) = option_fault place why
-refusal_text place FilterOfTables = told_at place cause.filter_of_tables
-refusal_text place Condition = told_at place cause.bad_condition
-refusal_text place NoCondition = told_at place cause.no_condition
-refusal_text place (Body why) = body_fault place why
-refusal_text place NoTableName = told_at place cause.no_table_name
-refusal_text place KeysMissing = told_at place cause.keys_missing
-refusal_text place (Entity why) = entity_fault place why
-refusal_text place NoBoundary = told_at place cause.no_boundary
-refusal_text place (Multipart why) = multipart_fault place why
-refusal_text place (Group why) = group_fault place why
+refusal_text index (Auth why) = auth_fault index why
+refusal_text index Path = error_text_at index cause.no_path
+refusal_text index Name = error_text_at index cause.bad_name
+refusal_text index (Key why) = key_fault index why
+refusal_text index Method = error_text_at index cause.wrong_method
+refusal_text index Format = error_text_at index cause.not_json_format
+refusal_text index (Options why) = option_fault index why
+refusal_text index FilterOfTables = error_text_at index cause.filter_of_tables
+refusal_text index Condition = error_text_at index cause.bad_condition
+refusal_text index NoCondition = error_text_at index cause.no_condition
+refusal_text index (Body why) = body_fault index why
+refusal_text index NoTableName = error_text_at index cause.no_table_name
+refusal_text index KeysMissing = error_text_at index cause.keys_missing
+refusal_text index (Entity why) = entity_fault index why
+refusal_text index NoBoundary = error_text_at index cause.no_boundary
+refusal_text index (Multipart why) = multipart_fault index why
+refusal_text index (Group why) = group_fault index why
 
 -- The reply to bytes that are no message. None is due where no message began, where a read failed, and where no memory was
 -- found, for which another reply stands ready.
 unfoldable pub http_fault : HttpRefused → Option (List ℕ)
 http_fault EndBetween = None
-http_fault EndInside = Some (told cause.not_whole)
-http_fault Malformed = Some (told cause.not_whole)
-http_fault HeadTooLong = Some (told cause.head_too_long)
-http_fault NoLength = Some (told cause.no_length)
-http_fault BodyTooLong = Some (told cause.body_too_long)
+http_fault EndInside = Some (error_text cause.not_whole)
+http_fault Malformed = Some (error_text cause.not_whole)
+http_fault HeadTooLong = Some (error_text cause.head_too_long)
+http_fault NoLength = Some (error_text cause.no_length)
+http_fault BodyTooLong = Some (error_text cause.body_too_long)
 http_fault ReadFault = None
 http_fault NoMemoryToRead = None

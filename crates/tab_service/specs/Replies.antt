@@ -24,7 +24,7 @@ use Rattle.tab_json.specs.Tables.{table_json, tables_json}
 use Rattle.tab_json.specs.declared.entities.JsonForm.{JsonForm}
 use Rattle.tab_batch.specs.Replies.{batch_text}
 use Rattle.tab_service.specs.Forms.{IsFormOf}
-use Rattle.tab_service.specs.Causes.{Fault, placed_text}
+use Rattle.tab_service.specs.Causes.{Cause, indexed_text}
 use Rattle.tab_service.specs.Causes as cause
 use Rattle.tab_service.specs.declared.forms.Form.{Form}
 use Rattle.tab_service.specs.declared.forms.PartForm.{PartForm}
@@ -82,22 +82,22 @@ IsChange (Get name pk rk) = ⊥
 IsChange (Page name options) = ⊥
 IsChange (Change group) = ⊤
 
--- the place is one of an operation of the change
-abbrev pub IsPlaceIn : ℕ → Ask → Type 0
-IsPlaceIn index (Create name) = ⊥
-IsPlaceIn index (Dropping name) = ⊥
-IsPlaceIn index (Listing after top) = ⊥
-IsPlaceIn index (Get name pk rk) = ⊥
-IsPlaceIn index (Page name options) = ⊥
-IsPlaceIn index (Change group) = index < length group
+-- the index is one of an operation of the change
+abbrev pub IsIndexIn : ℕ → Ask → Type 0
+IsIndexIn index (Create name) = ⊥
+IsIndexIn index (Dropping name) = ⊥
+IsIndexIn index (Listing after top) = ⊥
+IsIndexIn index (Get name pk rk) = ⊥
+IsIndexIn index (Page name options) = ⊥
+IsIndexIn index (Change group) = index < length group
 
 -- one of the change's operations is refused, and the kept tick is a moment
 abbrev pub SuitsRefusal : Ask → OpRefused → Type 0
-SuitsRefusal ask (AlreadyThere index) = IsPlaceIn index ask
-SuitsRefusal ask (NotThere index) = IsPlaceIn index ask
-SuitsRefusal ask (Condition index tick) = IsPlaceIn index ask × (tick ≤ GREATEST)
-SuitsRefusal ask (TooMany index) = IsPlaceIn index ask
-SuitsRefusal ask (TooLarge index) = IsPlaceIn index ask
+SuitsRefusal ask (AlreadyThere index) = IsIndexIn index ask
+SuitsRefusal ask (NotThere index) = IsIndexIn index ask
+SuitsRefusal ask (Condition index tick) = IsIndexIn index ask × (tick ≤ GREATEST)
+SuitsRefusal ask (TooMany index) = IsIndexIn index ask
+SuitsRefusal ask (TooLarge index) = IsIndexIn index ask
 SuitsRefusal ask NoMemory = IsChange ask
 
 -- the reason is one for such an ask: a refused operation for a change alone, and for a batch neither a missing row nor a
@@ -161,11 +161,11 @@ unfoldable pub fault_reply : ℕ → List ℕ → List ℕ → List ℕ
 fault_reply status code text = reply_with_body status (codes "application/json") [] (fault_json code text)
 
 -- and the same by its cause
-abbrev pub told : Fault → List ℕ
-told fault = fault_reply fault.status fault.code fault.text
+abbrev pub error_text : Cause → List ℕ
+error_text why = fault_reply why.status why.code why.text
 
 abbrev pub memory_fault : List ℕ
-memory_fault = told cause.no_memory
+memory_fault = error_text cause.no_memory
 
 -- the reply to a batch, from the replies to its operations
 unfoldable pub batch_reply : List (List ℕ) → List ℕ
@@ -174,34 +174,34 @@ batch_reply replies = reply_with_body 202 (codes "multipart/mixed; boundary=batc
 -- the reply that says why: to the whole request, or as the only part of the reply to a batch
 unfoldable pub fault_at : Option ℕ → ℕ → List ℕ → List ℕ → List ℕ
 fault_at None status code text = fault_reply status code text
-fault_at (Some index) status code text = batch_reply (fault_reply status code (placed_text index text) ∷ [])
+fault_at (Some index) status code text = batch_reply (fault_reply status code (indexed_text index text) ∷ [])
 
 -- and the same by its cause
-abbrev pub told_at : Option ℕ → Fault → List ℕ
-told_at place fault = fault_at place fault.status fault.code fault.text
+abbrev pub error_text_at : Option ℕ → Cause → List ℕ
+error_text_at index why = fault_at index why.status why.code why.text
 
--- the place of an operation, where it is one of a batch
-abbrev pub place_in : Bool → ℕ → Option ℕ
-place_in true index = Some index
-place_in false index = None
+-- the index of an operation, where it is one of a batch
+abbrev pub index_in : Bool → ℕ → Option ℕ
+index_in true index = Some index
+index_in false index = None
 
 -- the reply to a refused operation
 unfoldable pub refused_reply : Bool → OpRefused → List ℕ
-refused_reply batch (AlreadyThere index) = told_at (place_in batch index) cause.entity_there
-refused_reply batch (NotThere index) = told_at (place_in batch index) cause.no_entity
-refused_reply batch (Condition index tick) = told_at (place_in batch index) (cause.other_version (text_of_etag tick))
-refused_reply batch (TooMany index) = told_at (place_in batch index) cause.too_many_properties
-refused_reply batch (TooLarge index) = told_at (place_in batch index) cause.entity_too_large
+refused_reply batch (AlreadyThere index) = error_text_at (index_in batch index) cause.entity_there
+refused_reply batch (NotThere index) = error_text_at (index_in batch index) cause.no_entity
+refused_reply batch (Condition index tick) = error_text_at (index_in batch index) (cause.other_version (text_of_etag tick))
+refused_reply batch (TooMany index) = error_text_at (index_in batch index) cause.too_many_properties
+refused_reply batch (TooLarge index) = error_text_at (index_in batch index) cause.entity_too_large
 refused_reply batch NoMemory = memory_fault
 
 -- the reply to a denied request; in a batch the first operation names its table
 unfoldable pub denied_reply : Bool → Why → List ℕ
-denied_reply batch NoTable = told_at (place_in batch 0) cause.no_table
-denied_reply batch TableThere = told cause.table_there
-denied_reply batch NotFound = told cause.no_entity
+denied_reply batch NoTable = error_text_at (index_in batch 0) cause.no_table
+denied_reply batch TableThere = error_text cause.table_there
+denied_reply batch NotFound = error_text cause.no_entity
 denied_reply batch (Op refusal) = refused_reply batch refusal
-denied_reply batch TimeSpent = told cause.time_spent
-denied_reply batch IdsSpent = told cause.numbers_spent
+denied_reply batch TimeSpent = error_text cause.time_spent
+denied_reply batch IdsSpent = error_text cause.numbers_spent
 denied_reply batch Memory = memory_fault
 
 -- the type of a body with minimal metadata, or with none
@@ -217,8 +217,8 @@ etag_header tick = (codes "ETag", text_of_etag tick)
 -- the headers that say where the next page begins
 abbrev pub continuation : Option (List ℕ × List ℕ) → List Header
 continuation None = []
-continuation (Some place) =
-    (codes "x-ms-continuation-NextPartitionKey", token_text place.0) ∷ (codes "x-ms-continuation-NextRowKey", token_text place.1) ∷ []
+continuation (Some next) =
+    (codes "x-ms-continuation-NextPartitionKey", token_text next.0) ∷ (codes "x-ms-continuation-NextRowKey", token_text next.1) ∷ []
 
 -- the page of a table
 unfoldable pub page_reply : List ℕ → List ℕ → JsonForm → PageView → List ℕ

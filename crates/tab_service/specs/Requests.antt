@@ -34,7 +34,7 @@ use Rattle.tab_service.specs.declared.refusals.Refusal.{Refusal}
 use Rattle.tab_service.specs.declared.refusals.Refusal.TheVariants.{Path, Method, Key, Name, Body, NoTableName, KeysMissing, Entity}
 use Rattle.tab_service.specs.declared.table_queries.TableWindow.{TableWindow}
 use Rattle.tab_service.specs.declared.targets.Resource.{Resource}
-use Rattle.tab_service.specs.declared.writes.Part.{Part}
+use Rattle.tab_service.specs.declared.writes.Operation.{Operation}
 use Rattle.tab_service.specs.declared.writes.Writing.{Writing}
 use Rattle.tab_service.specs.declared.writes.Writing.TheVariants.{Replacing, Merging}
 
@@ -77,17 +77,17 @@ is_delete (MergeIn entity) = false
 is_delete (Delete condition) = true
 
 -- an operation, with how its reply is wanted
-abbrev pub change_part : Bool → Prefer → List ℕ → List ℕ × List ℕ → Op → Part
-change_part minimal prefer name keys op =
+abbrev pub change_operation : Bool → Prefer → List ℕ → List ℕ × List ℕ → Op → Operation
+change_operation minimal prefer name keys op =
     let item : ItemView = record { name = name; pk = keys.0; rk = keys.1; op = op } in
     let form : PartForm = record { insert = is_insert op; delete = is_delete op; minimal = minimal; prefer = prefer } in
     record { item = item; form = form }
 
 -- the request for one operation
-abbrev pub change_request : List ℕ → Part → Request
+abbrev pub change_request : List ℕ → Operation → Request
 change_request account part = record { ask = Change (part.item ∷ []); form = form_of account All part.form }
 
-abbrev pub single : List ℕ → Result Part Refusal → Result Request Refusal
+abbrev pub single : List ℕ → Result Operation Refusal → Result Request Refusal
 single account (Ok part) = Ok (change_request account part)
 single account (Err why) = Err why
 
@@ -202,13 +202,13 @@ decided_row account query headers name keys =
     (λ minimal. unless_refused (query_select query)
     (λ select. Ok (row_request account minimal select name keys)))
 
-abbrev pub insert_from : Bool → Prefer → List ℕ → BodyEntity → Result Part Refusal
+abbrev pub insert_from : Bool → Prefer → List ℕ → BodyEntity → Result Operation Refusal
 insert_from minimal prefer name body =
     unless_refused (given_keys body)
     (λ keys. unless_refused (entity_for keys body)
-    (λ entity. Ok (change_part minimal prefer name keys (Insert entity))))
+    (λ entity. Ok (change_operation minimal prefer name keys (Insert entity))))
 
-unfoldable pub decided_insert : List Header → List ℕ → List ℕ → Result Part Refusal
+unfoldable pub decided_insert : List Header → List ℕ → List ℕ → Result Operation Refusal
 decided_insert headers name body =
     unless_refused (format_with_body headers)
     (λ minimal. unless_refused (read_body body)
@@ -221,34 +221,34 @@ op_for Replacing entity (Some condition) = Update entity condition
 op_for Merging entity None = MergeIn entity
 op_for Merging entity (Some condition) = Merge entity condition
 
-abbrev pub write_from : Bool → Writing → List ℕ → List ℕ × List ℕ → Option Match → BodyEntity → Result Part Refusal
+abbrev pub write_from : Bool → Writing → List ℕ → List ℕ × List ℕ → Option Match → BodyEntity → Result Operation Refusal
 write_from minimal writing name keys condition body =
-    unless_refused (entity_for keys body) (λ entity. Ok (change_part minimal Unsaid name keys (op_for writing entity condition)))
+    unless_refused (entity_for keys body) (λ entity. Ok (change_operation minimal Unsaid name keys (op_for writing entity condition)))
 
 -- the keys in the body are read, and those of the path taken
-unfoldable pub decided_write : List Header → List ℕ → List ℕ × List ℕ → Writing → List ℕ → Result Part Refusal
+unfoldable pub decided_write : List Header → List ℕ → List ℕ × List ℕ → Writing → List ℕ → Result Operation Refusal
 decided_write headers name keys writing body =
     unless_refused (format_with_body headers)
     (λ minimal. unless_refused (condition_for headers)
     (λ condition. unless_refused (read_body body)
     (λ given. write_from minimal writing name keys condition given)))
 
-unfoldable pub decided_delete : List Header → List ℕ → List ℕ × List ℕ → Result Part Refusal
+unfoldable pub decided_delete : List Header → List ℕ → List ℕ × List ℕ → Result Operation Refusal
 decided_delete headers name keys =
     unless_refused (format_for headers)
     (λ minimal. unless_refused (condition_for headers)
     (λ found. unless_refused (needed_condition found)
-    (λ condition. Ok (change_part minimal Unsaid name keys (Delete condition)))))
+    (λ condition. Ok (change_operation minimal Unsaid name keys (Delete condition)))))
 
 -- ---- operations by method
 
 -- the operation that is asked for in a table's rows
-unfoldable pub change_in_rows : Message → List ℕ → Result Part Refusal
+unfoldable pub change_in_rows : Message → List ℕ → Result Operation Refusal
 change_in_rows message name =
     if bytes_eq message.method (codes "POST") then decided_insert message.headers name message.body else Err Method
 
 -- the operation that is asked for on one row; the method PATCH is MERGE
-unfoldable pub change_of_row : Message → List ℕ → List ℕ × List ℕ → Result Part Refusal
+unfoldable pub change_of_row : Message → List ℕ → List ℕ × List ℕ → Result Operation Refusal
 change_of_row message name keys =
     if bytes_eq message.method (codes "PUT") then decided_write message.headers name keys Replacing message.body
     else (if bytes_eq message.method (codes "MERGE") || bytes_eq message.method (codes "PATCH") then decided_write message.headers name keys Merging message.body

@@ -115,9 +115,9 @@ unfoldable pub quoted_table : List ℕ → Option (List ℕ)
 quoted_table text = option_and_then name_quoted (parted 39 text)
 
 -- a table's name may stand in front: something that begins with neither `$`, which is 36, nor a parenthesis, which is 40
-unfoldable pub is_name_place : List ℕ → Bool
-is_name_place [] = false
-is_name_place (b ∷ bytes) = not (b == 36) && not (b == 40)
+unfoldable pub may_begin_name : List ℕ → Bool
+may_begin_name [] = false
+may_begin_name (b ∷ bytes) = not (b == 36) && not (b == 40)
 
 -- a row of a table by its keys, which are texts
 abbrev pub row_at : List ℕ → List ℕ × List ℕ → Option Resource
@@ -133,13 +133,13 @@ address_by text (Some parts) = in_parentheses parts
 
 -- `NAME`, `NAME()` and `NAME(PartitionKey='P',RowKey='R')`
 unfoldable pub address_of : List ℕ → Option Resource
-address_of text = if is_name_place text then address_by text (parted 40 text) else None
+address_of text = if may_begin_name text then address_by text (parted 40 text) else None
 
 abbrev pub table_or_rows : List ℕ → Option (List ℕ) → Option Resource
 table_or_rows text None = address_of text
 table_or_rows text (Some name) = Some (Table name)
 
--- what a segment names; batches have a place of their own
+-- what a segment names; batches have a resource of their own
 unfoldable pub resource_of : List ℕ → Option Resource
 resource_of text =
     if is_tables text then Some Tables

@@ -1,12 +1,12 @@
 ghost use Rattle.std.specs.Prelude.{◌≡◌, [], ◌∷◌, ◌++◌, IfOk, OnOk, Ok};
 ghost use Rattle.std.specs.Option.{option_copied};
-ghost use Rattle.tab_service.specs.Batches.{part_on, part_of, operations_from, group_place, batch_form, request_for, grouped_request, unread, boundary_in, IsBatchOf};
+ghost use Rattle.tab_service.specs.Batches.{part_on, part_of, operations_from, group_index, batch_form, request_for, grouped_request, unread, boundary_in, IsBatchOf};
 ghost use Rattle.tab_batch.specs.Refusals.{IsDecided};
 
 use crate::reads::row_keys;
 use crate::tables::table_name;
 use crate::targets::{Resource, resource_at};
-use crate::writes::{Part, change_in_rows, change_of_row};
+use crate::writes::{Operation, change_in_rows, change_of_row};
 use crate::{Form, PartForm, PartForms, Refusal, Request};
 use std::alloc::Global;
 use std::marker::Model;
@@ -19,14 +19,14 @@ use tab_keys::Memory;
 use tab_ops::{Group, GroupRefused, Item};
 use tab_page::Select;
 
-/// The place of the first operation behind as many as a group may have.
+/// The index of the first operation behind as many as a group may have.
 const FIRST_TOO_MANY: usize = 100;
 
 /// Why a batch is refused.
 #[derive(Debug, Drop)]
-pub struct Refused {
-    /// The place of the part that is refused, or none where the batch is refused as a whole.
-    pub place: Option<usize>,
+pub struct PartRefusal {
+    /// The index of the part that is refused, or none where the batch is refused as a whole.
+    pub index: Option<usize>,
     pub why: Refusal,
 }
 
@@ -37,12 +37,12 @@ pub(crate) fn batch_of(
     account: &str,
     minimal: bool,
     message: &Message,
-) -> Result<Result<Request, Refused>, Memory>
+) -> Result<Result<Request, PartRefusal>, Memory>
     ensures { IfOk result (IsBatchOf account.now minimal message.now) }
 {
     let Some(boundary) = boundary_in(message) else {
-        return Ok(Err(Refused {
-            place: None,
+        return Ok(Err(PartRefusal {
+            index: None,
             why: Refusal::NoBoundary,
         }));
     };
@@ -53,17 +53,17 @@ pub(crate) fn batch_of(
 }
 
 /// The refusal of a batch whose requests are not read, where it was not for want of memory.
-fn unread(why: BatchRefused) -> Result<Refused, Memory>
+fn unread(why: BatchRefused) -> Result<PartRefusal, Memory>
     ensures refused { IfOk result (λ refused. refused ≡ unread why) }
     ensures decided { IfOk result (λ refused. IsDecided why) }
 {
-    let place = match why {
+    let index = match why {
         BatchRefused::BadMultipart { .. } => None,
         BatchRefused::BadPart { index } => Some(index),
         BatchRefused::Memory => return Err(Memory),
     };
     let why = Refusal::Multipart(why);
-    Ok(Refused { place, why })
+    Ok(PartRefusal { index, why })
 }
 
 /// The boundary that the first Content-Type header gives.
@@ -79,7 +79,7 @@ fn batch_from(
     account: &str,
     minimal: bool,
     messages: &[Message],
-) -> Result<Result<Request, Refused>, Memory>
+) -> Result<Result<Request, PartRefusal>, Memory>
     ensures { IfOk result (λ found. found ≡ grouped_request account.now minimal (operations_from 0 account.now messages.now)) }
 {
     match operations_of(alloc, account, messages)? {
@@ -116,10 +116,10 @@ impl Operations {
         }
     }
 
-    fn push(&mut self, part: Part) -> Result<(), Memory>
+    fn push(&mut self, part: Operation) -> Result<(), Memory>
         ensures { OnOk result (self.new ≡ (self.old.0 ++ part.item ∷ [], self.old.1 ++ part.form ∷ [])) }
     {
-        let Part { item, form } = part;
+        let Operation { item, form } = part;
         let Ok(()) = self.items.push(item) else {
             return Err(Memory);
         };
@@ -135,7 +135,7 @@ fn operations_of(
     alloc: Global,
     account: &str,
     messages: &[Message],
-) -> Result<Result<Operations, Refused>, Memory>
+) -> Result<Result<Operations, PartRefusal>, Memory>
     ensures { IfOk result (λ found. found ≡ operations_from 0 account.now messages.now) }
 {
     let mut operations = Operations::new(alloc);
@@ -143,8 +143,8 @@ fn operations_of(
         match part_of(alloc, account, message)? {
             Ok(part) => operations.push(part)?,
             Err(why) => {
-                let place = Some(index);
-                return Ok(Err(Refused { place, why }));
+                let index = Some(index);
+                return Ok(Err(PartRefusal { index, why }));
             }
         }
     }
@@ -153,7 +153,7 @@ fn operations_of(
 
 /// The operation that a part asks for.
 #[tactic(auto, unfolding(crate::specs::Batches::part_of))]
-fn part_of(alloc: Global, account: &str, message: &Message) -> Result<Result<Part, Refusal>, Memory>
+fn part_of(alloc: Global, account: &str, message: &Message) -> Result<Result<Operation, Refusal>, Memory>
     ensures { IfOk result (λ part. part ≡ part_of account.now message.now) }
 {
     match resource_at(alloc, account, message)? {
@@ -167,7 +167,7 @@ fn part_on(
     alloc: Global,
     message: &Message,
     resource: &Resource,
-) -> Result<Result<Part, Refusal>, Memory>
+) -> Result<Result<Operation, Refusal>, Memory>
     ensures { IfOk result (λ part. part ≡ part_on message.now resource.now) }
 {
     match resource {
@@ -194,7 +194,7 @@ fn group_from(
     account: &str,
     minimal: bool,
     operations: Operations,
-) -> Result<Result<Request, Refused>, Memory>
+) -> Result<Result<Request, PartRefusal>, Memory>
     ensures { IfOk result (λ found. found ≡ grouped_request account.now minimal (Ok operations)) }
 {
     let Operations { items, forms } = operations;
@@ -205,16 +205,16 @@ fn group_from(
             Ok(Ok(Request { ask, form }))
         }
         Err(GroupRefused::Memory) => Err(Memory),
-        Err(why) => Ok(Err(Refused {
-            place: group_place(why),
+        Err(why) => Ok(Err(PartRefusal {
+            index: group_index(why),
             why: Refusal::Group(why),
         })),
     }
 }
 
-/// The place of the part for which operations make no group.
-fn group_place(why: GroupRefused) -> Option<usize>
-    ensures { result ≡ group_place why }
+/// The index of the part for which operations make no group.
+fn group_index(why: GroupRefused) -> Option<usize>
+    ensures { result ≡ group_index why }
 {
     match why {
         GroupRefused::TooMany => Some(FIRST_TOO_MANY),

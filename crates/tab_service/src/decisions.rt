@@ -8,7 +8,7 @@ ghost use Rattle.tab_service.specs.Decisions.{on_tables, on_table, on_rows, on_r
 ghost use Rattle.tab_service.specs.declared.decisions.Decided.{Decided};
 ghost use Rattle.tab_service.specs.declared.forms.Request.{Request};
 
-use crate::batches::{Refused, batch_of};
+use crate::batches::{PartRefusal, batch_of};
 use crate::preferences::format_with_body;
 use crate::reads::{decided_page, decided_row, row_keys};
 use crate::refusals::refusal_reply;
@@ -72,13 +72,13 @@ pub fn messages_have_one_decision()
     a_batch_has_one_answer();
 }
 
-fn answered(alloc: Global, found: Result<Request, Refused>) -> Result<Decided, Memory>
+fn answered(alloc: Global, found: Result<Request, PartRefusal>) -> Result<Decided, Memory>
     ensures { IfOk result (λ decided. decided ≡ answered found) }
 {
     match found {
         Ok(request) => Ok(Decided::Go(request)),
         Err(refused) => {
-            let reply = refusal_reply(alloc, refused.place, &refused.why)?;
+            let reply = refusal_reply(alloc, refused.index, &refused.why)?;
             Ok(Decided::No(ReplyBytes::new(reply)))
         }
     }

@@ -1,7 +1,7 @@
 ghost use Rattle.std.specs.Prelude.{◌≡◌};
 ghost use Rattle.std.specs.Option.{option_copied};
 ghost use Rattle.tab_service.specs.Causes as cause;
-ghost use Rattle.tab_service.specs.Replies.{told};
+ghost use Rattle.tab_service.specs.Replies.{error_text};
 ghost use Rattle.tab_service.specs.Refusals.{http_fault};
 
 use tab_http::HttpRefused;
@@ -33,25 +33,25 @@ pub fn http_fault(refused: &HttpRefused) -> Option<&'static [u8]>
 }
 
 fn not_whole() -> &'static [u8]
-    ensures { result.now ≡ told cause.not_whole }
+    ensures { result.now ≡ error_text cause.not_whole }
 {
     NOT_WHOLE.as_bytes()
 }
 
 fn head_too_long() -> &'static [u8]
-    ensures { result.now ≡ told cause.head_too_long }
+    ensures { result.now ≡ error_text cause.head_too_long }
 {
     HEAD_TOO_LONG.as_bytes()
 }
 
 fn no_length() -> &'static [u8]
-    ensures { result.now ≡ told cause.no_length }
+    ensures { result.now ≡ error_text cause.no_length }
 {
     NO_LENGTH.as_bytes()
 }
 
 fn body_too_long() -> &'static [u8]
-    ensures { result.now ≡ told cause.body_too_long }
+    ensures { result.now ≡ error_text cause.body_too_long }
 {
     BODY_TOO_LONG.as_bytes()
 }

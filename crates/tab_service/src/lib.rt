@@ -19,7 +19,7 @@ mod tables;
 mod targets;
 mod writes;
 
-pub use batches::Refused;
+pub use batches::PartRefusal;
 pub use decisions::{Asked, Decided, decide, messages_have_one_decision, requests_are_in_form};
 pub use forms::{Form, PartForm, PartForms, Prefer, ReplyBytes, Request};
 pub use http_faults::http_fault;
@@ -27,4 +27,4 @@ pub use refusals::{Refusal, refusal_reply};
 pub use replies::{memory_reply, reply_bytes};
 pub use table_queries::TableWindow;
 pub use targets::Resource;
-pub use writes::{Part, Writing};
+pub use writes::{Operation, Writing};

@@ -2,9 +2,9 @@ ghost use Rattle.std.specs.Prelude.{◌≡◌, ◌≤◌, ◌∷◌, ◌++◌, [
 ghost use Rattle.std.specs.Option.{option_copied};
 ghost use Rattle.http.specs.StatusCode.{IsStatusCode};
 ghost use Rattle.tab_edm.specs.Moments.{text_of_etag};
-ghost use Rattle.tab_service.specs.Replies.{IsGet, IsPage, IsChange, SuitsRefusal, SuitsDenial, Suits, header_line, status_line, head_text, version_header, reply_with_body, fault_reply, batch_reply, fault_at, told, told_at, place_in, refused_reply, denied_reply, memory_fault, json_type, continuation, page_reply, row_reply, applied, created_reply, bodiless_reply, insert_reply, written_reply, operation_reply, operation_replies, change_reply, found_reply, listed_reply, changed_reply, reply_to_ask, reply_text};
+ghost use Rattle.tab_service.specs.Replies.{IsGet, IsPage, IsChange, SuitsRefusal, SuitsDenial, Suits, header_line, status_line, head_text, version_header, reply_with_body, fault_reply, batch_reply, fault_at, error_text, error_text_at, index_in, refused_reply, denied_reply, memory_fault, json_type, continuation, page_reply, row_reply, applied, created_reply, bodiless_reply, insert_reply, written_reply, operation_reply, operation_replies, change_reply, found_reply, listed_reply, changed_reply, reply_to_ask, reply_text};
 ghost use Rattle.tab_service.specs.Forms.{IsFormOf};
-ghost use Rattle.tab_service.specs.Causes.{placed_text};
+ghost use Rattle.tab_service.specs.Causes.{indexed_text};
 ghost use Rattle.tab_service.specs.Causes as cause;
 
 use crate::refusals::around;
@@ -343,7 +343,7 @@ fn denied_reply(alloc: Global, batch: bool, ask: &Ask, why: Denied) -> Result<Ve
     ensures { IfOk result (λ bytes. bytes.items ≡ denied_reply batch why) }
 {
     match why {
-        Denied::NoTable => no_table(alloc, place_in(batch, 0)),
+        Denied::NoTable => no_table(alloc, index_in(batch, 0)),
         Denied::TableThere => fault_bytes(
             alloc,
             409,
@@ -358,21 +358,21 @@ fn denied_reply(alloc: Global, batch: bool, ask: &Ask, why: Denied) -> Result<Ve
     }
 }
 
-fn no_table(alloc: Global, place: Option<usize>) -> Result<Vec<u8>, Memory>
-    ensures { IfOk result (λ bytes. bytes.items ≡ told_at place cause.no_table) }
+fn no_table(alloc: Global, index: Option<usize>) -> Result<Vec<u8>, Memory>
+    ensures { IfOk result (λ bytes. bytes.items ≡ error_text_at index cause.no_table) }
 {
     fault_reply(
         alloc,
-        place,
+        index,
         404,
         "TableNotFound",
         "The table is not there.",
     )
 }
 
-/// The place of an operation, where it is one of a batch.
-fn place_in(batch: bool, index: usize) -> Option<usize>
-    ensures { result ≡ place_in batch index }
+/// The index of an operation, where it is one of a batch.
+fn index_in(batch: bool, index: usize) -> Option<usize>
+    ensures { result ≡ index_in batch index }
 {
     if batch { Some(index) } else { None }
 }
@@ -390,31 +390,31 @@ fn refused_reply(
     match refused {
         OpRefused::AlreadyThere { index } => fault_reply(
             alloc,
-            place_in(batch, index),
+            index_in(batch, index),
             409,
             "EntityAlreadyExists",
             "The entity is there already.",
         ),
         OpRefused::NotThere { index } => fault_reply(
             alloc,
-            place_in(batch, index),
+            index_in(batch, index),
             404,
             "ResourceNotFound",
             "The entity is not there.",
         ),
         OpRefused::Condition { index, tick } => {
-            condition_reply(alloc, place_in(batch, index), tick)
+            condition_reply(alloc, index_in(batch, index), tick)
         }
         OpRefused::TooMany { index } => fault_reply(
             alloc,
-            place_in(batch, index),
+            index_in(batch, index),
             400,
             "TooManyProperties",
             "An entity has at most 252 properties.",
         ),
         OpRefused::TooLarge { index } => fault_reply(
             alloc,
-            place_in(batch, index),
+            index_in(batch, index),
             400,
             "EntityTooLarge",
             "An entity has at most 1048576 bytes.",
@@ -424,15 +424,15 @@ fn refused_reply(
 }
 
 /// The reply to an operation that wants another version than the kept one.
-fn condition_reply(alloc: Global, place: Option<usize>, tick: u64) -> Result<Vec<u8>, Memory>
+fn condition_reply(alloc: Global, index: Option<usize>, tick: u64) -> Result<Vec<u8>, Memory>
     requires { tick ≤ GREATEST }
-    ensures { IfOk result (λ bytes. bytes.items ≡ told_at place (cause.other_version (text_of_etag tick))) }
+    ensures { IfOk result (λ bytes. bytes.items ≡ error_text_at index (cause.other_version (text_of_etag tick))) }
 {
     let etag = etag_of(alloc, tick)?;
     let text = around(alloc, "The kept version is ", etag.as_str(), ".")?;
     fault_reply(
         alloc,
-        place,
+        index,
         412,
         "UpdateConditionNotSatisfied",
         text.as_str(),
@@ -450,37 +450,37 @@ pub(crate) fn json_type(minimal: bool) -> &'static str
 #[tactic(auto, unfolding(crate::specs::Replies::fault_at))]
 pub(crate) fn fault_reply(
     alloc: Global,
-    place: Option<usize>,
+    index: Option<usize>,
     status: u16,
     code: &str,
     text: &str,
 ) -> Result<Vec<u8>, Memory>
     requires { IsStatusCode status }
-    ensures { IfOk result (λ bytes. bytes.items ≡ fault_at place status code.now text.now) }
+    ensures { IfOk result (λ bytes. bytes.items ≡ fault_at index status code.now text.now) }
 {
-    match place {
+    match index {
         None => fault_bytes(alloc, status, code, text),
         Some(index) => {
-            let text = placed_text(alloc, index, text)?;
+            let text = indexed_text(alloc, index, text)?;
             let part = fault_bytes(alloc, status, code, text.as_str())?;
             batch_reply(alloc, &[part])
         }
     }
 }
 
-/// The text behind the place of the operation that it is of.
-fn placed_text(alloc: Global, index: usize, text: &str) -> Result<String, Memory>
-    ensures { IfOk result (λ placed. string_bytes placed ≡ placed_text index text.now) }
+/// The text behind the index of the operation that it is of.
+fn indexed_text(alloc: Global, index: usize, text: &str) -> Result<String, Memory>
+    ensures { IfOk result (λ indexed. string_bytes indexed ≡ indexed_text index text.now) }
 {
     let index = index.to_string(alloc).map_err(|_| Memory)?;
     around(alloc, index.as_str(), ":", text)
 }
 
-/// The reply that no memory was found, in the place of one by another cause.
-pub(crate) fn memory_fault(alloc: Global, place: Option<usize>) -> Result<Vec<u8>, Memory>
-    ensures { IfOk result (λ bytes. bytes.items ≡ told_at place cause.no_memory) }
+/// The reply that no memory was found, in place of one by another cause.
+pub(crate) fn memory_fault(alloc: Global, index: Option<usize>) -> Result<Vec<u8>, Memory>
+    ensures { IfOk result (λ bytes. bytes.items ≡ error_text_at index cause.no_memory) }
 {
-    fault_reply(alloc, place, 507, "OutOfMemory", "No memory was found.")
+    fault_reply(alloc, index, 507, "OutOfMemory", "No memory was found.")
 }
 
 #[tactic(auto, unfolding(crate::specs::Replies::fault_reply))]

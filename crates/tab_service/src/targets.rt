@@ -1,7 +1,7 @@
 ghost use Rattle.std.specs.Prelude.{◌≡◌, IfOk, option_map, vec_items};
 ghost use Rattle.std.specs.List.{list_any};
 ghost use Rattle.std.specs.Option.{option_copied};
-ghost use Rattle.tab_service.specs.Targets.{path_of, query_of, behind, path_behind, ends_segment, one_segment, segment_in, decoded, text_of, quoted, doubled_quote, first_inside, past_quote, value_named, without_spaces, row_key_behind, keys_in, is_tables, name_quoted, before_mark, parted, quoted_table, is_name_place, row_at, in_parentheses, address_of, resource_of, resource_in};
+ghost use Rattle.tab_service.specs.Targets.{path_of, query_of, behind, path_behind, ends_segment, one_segment, segment_in, decoded, text_of, quoted, doubled_quote, first_inside, past_quote, value_named, without_spaces, row_key_behind, keys_in, is_tables, name_quoted, before_mark, parted, quoted_table, may_begin_name, row_at, in_parentheses, address_of, resource_of, resource_in};
 ghost use Rattle.tab_service.specs.Requests.{resource_at};
 
 use crate::Refusal;
@@ -172,7 +172,7 @@ fn before_mark<'t>(mark: &str, text: &'t str) -> Option<&'t str>
 fn address_of(alloc: Global, segment: &str) -> Result<Option<Resource>, Memory>
     ensures { IfOk result (λ found. found ≡ address_of segment.now) }
 {
-    if !is_name_place(segment.as_bytes()) {
+    if !may_begin_name(segment.as_bytes()) {
         return Ok(None);
     }
     match opened(segment) {
@@ -189,9 +189,9 @@ fn opened(segment: &str) -> Option<(&str, &str)>
 }
 
 /// Whether a table's name may stand at the front of a segment.
-#[tactic(auto, unfolding(crate::specs::Targets::is_name_place))]
-fn is_name_place(segment: &[u8]) -> bool
-    ensures { result ≡ is_name_place segment.now }
+#[tactic(auto, unfolding(crate::specs::Targets::may_begin_name))]
+fn may_begin_name(segment: &[u8]) -> bool
+    ensures { result ≡ may_begin_name segment.now }
 {
     match segment {
         [] => false,

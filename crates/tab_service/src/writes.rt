@@ -2,7 +2,7 @@ ghost use Rattle.std.specs.Prelude.{◌≡◌, IfOk, length};
 ghost use Rattle.tab_keys.specs.KeyTexts.{units_of};
 ghost use Rattle.tab_edm.specs.Entities.{made};
 ghost use Rattle.tab_ops.specs.Groups.{IsMadeFor};
-ghost use Rattle.tab_service.specs.Requests.{is_insert, is_delete, change_part, change_request, single, read_body, entity_unless, entity_for, given_keys, insert_from, op_for, write_from, decided_insert, decided_write, decided_delete, change_in_rows, change_of_row};
+ghost use Rattle.tab_service.specs.Requests.{is_insert, is_delete, change_operation, change_request, single, read_body, entity_unless, entity_for, given_keys, insert_from, op_for, write_from, decided_insert, decided_write, decided_delete, change_in_rows, change_of_row};
 
 use crate::conditions::{condition_for, needed_condition};
 use crate::preferences::{format_for, format_with_body, preference_for};
@@ -28,7 +28,7 @@ pub enum Writing {
 
 /// An operation on a row, and how its reply is wanted.
 #[derive(Debug, Drop)]
-pub struct Part {
+pub struct Operation {
     pub item: Item,
     pub form: PartForm,
 }
@@ -40,7 +40,7 @@ fn decided_insert(
     headers: &[Header],
     name: TableName,
     body: &[u8],
-) -> Result<Result<Part, Refusal>, Memory>
+) -> Result<Result<Operation, Refusal>, Memory>
     ensures { IfOk result (λ decided. decided ≡ decided_insert headers.now name body.now) }
 {
     let minimal = match format_with_body(alloc, headers)? {
@@ -59,7 +59,7 @@ fn insert_from(
     prefer: Prefer,
     name: TableName,
     body: BodyEntity,
-) -> Result<Result<Part, Refusal>, Memory>
+) -> Result<Result<Operation, Refusal>, Memory>
     ensures { IfOk result (λ decided. decided ≡ insert_from minimal prefer name body) }
 {
     let BodyEntity { pk, rk, properties } = body;
@@ -72,7 +72,7 @@ fn insert_from(
     match entity_for(&pk, &rk, properties)? {
         Ok(entity) => {
             let op = Op::Insert(entity);
-            Ok(Ok(change_part(minimal, prefer, name, (pk, rk), op)))
+            Ok(Ok(change_operation(minimal, prefer, name, (pk, rk), op)))
         }
         Err(why) => Ok(Err(why)),
     }
@@ -87,7 +87,7 @@ fn decided_write(
     keys: (KeyText, KeyText),
     writing: Writing,
     body: &[u8],
-) -> Result<Result<Part, Refusal>, Memory>
+) -> Result<Result<Operation, Refusal>, Memory>
     ensures { IfOk result (λ decided. decided ≡ decided_write headers.now name keys writing body.now) }
 {
     let minimal = match format_with_body(alloc, headers)? {
@@ -112,14 +112,14 @@ fn write_from(
     keys: (KeyText, KeyText),
     condition: Option<Match>,
     body: BodyEntity,
-) -> Result<Result<Part, Refusal>, Memory>
+) -> Result<Result<Operation, Refusal>, Memory>
     ensures { IfOk result (λ decided. decided ≡ write_from minimal writing name keys condition body) }
 {
     let (pk, rk) = keys;
     match entity_for(&pk, &rk, body.properties)? {
         Ok(entity) => {
             let op = op_for(writing, entity, condition);
-            Ok(Ok(change_part(minimal, Prefer::Unsaid, name, (pk, rk), op)))
+            Ok(Ok(change_operation(minimal, Prefer::Unsaid, name, (pk, rk), op)))
         }
         Err(why) => Ok(Err(why)),
     }
@@ -148,7 +148,7 @@ fn decided_delete(
     headers: &[Header],
     name: TableName,
     keys: (KeyText, KeyText),
-) -> Result<Result<Part, Refusal>, Memory>
+) -> Result<Result<Operation, Refusal>, Memory>
     ensures { IfOk result (λ decided. decided ≡ decided_delete headers.now name keys) }
 {
     let minimal = match format_for(alloc, headers)? {
@@ -162,7 +162,7 @@ fn decided_delete(
     match needed_condition(found) {
         Ok(condition) => {
             let op = Op::Delete(condition);
-            Ok(Ok(change_part(minimal, Prefer::Unsaid, name, keys, op)))
+            Ok(Ok(change_operation(minimal, Prefer::Unsaid, name, keys, op)))
         }
         Err(why) => Ok(Err(why)),
     }
@@ -196,15 +196,15 @@ fn entity_for(
     }
 }
 
-fn change_part(
+fn change_operation(
     minimal: bool,
     prefer: Prefer,
     name: TableName,
     keys: (KeyText, KeyText),
     op: Op,
-) -> Part
+) -> Operation
     requires { IsMadeFor (length (units_of keys.0)) (length (units_of keys.1)) op }
-    ensures { result ≡ change_part minimal prefer name keys op }
+    ensures { result ≡ change_operation minimal prefer name keys op }
 {
     let (pk, rk) = keys;
     let form = PartForm {
@@ -213,7 +213,7 @@ fn change_part(
         minimal,
         prefer,
     };
-    Part {
+    Operation {
         item: Item { name, pk, rk, op },
         form,
     }
@@ -239,7 +239,7 @@ pub(crate) fn change_in_rows(
     alloc: Global,
     message: &Message,
     name: TableName,
-) -> Result<Result<Part, Refusal>, Memory>
+) -> Result<Result<Operation, Refusal>, Memory>
     ensures { IfOk result (λ found. found ≡ change_in_rows message.now name) }
 {
     if message.method.as_str() == "POST" {
@@ -257,7 +257,7 @@ pub(crate) fn change_of_row(
     message: &Message,
     name: TableName,
     keys: (KeyText, KeyText),
-) -> Result<Result<Part, Refusal>, Memory>
+) -> Result<Result<Operation, Refusal>, Memory>
     ensures { IfOk result (λ found. found ≡ change_of_row message.now name keys) }
 {
     let method = message.method.as_str();
@@ -280,7 +280,7 @@ pub(crate) fn change_of_row(
 pub(crate) fn single(
     alloc: Global,
     account: &str,
-    part: Result<Part, Refusal>,
+    part: Result<Operation, Refusal>,
 ) -> Result<Result<Request, Refusal>, Memory>
     ensures { IfOk result (λ request. request ≡ single account.now part) }
 {
@@ -290,10 +290,10 @@ pub(crate) fn single(
     }
 }
 
-fn change_request(alloc: Global, account: &str, part: Part) -> Result<Request, Memory>
+fn change_request(alloc: Global, account: &str, part: Operation) -> Result<Request, Memory>
     ensures { IfOk result (λ request. request ≡ change_request account.now part) }
 {
-    let Part { item, form } = part;
+    let Operation { item, form } = part;
     let form = form_of(alloc, account, Select::All, form)?;
     let group = Group::of(alloc, item)?;
     Ok(Request {

@@ -1,6 +1,6 @@
 use Rattle.std.proofs.Common.{ap, ◌∙◌, sym, ◌<◌, length, List, subst, Some}
 use Rattle.tab_ops.specs.Groups.{ItemView}
-use Rattle.tab_drive.proofs.WalkSteps.{some_item, named_first}
+use Rattle.tab_drive.proofs.StateSteps.{some_item, named_first}
 use Rattle.tab_drive.proofs.look_ups.name_of.Goals as goal
 
 pub bounds-items-0 : goal.bounds-items-0

@@ -1,5 +1,5 @@
 use Rattle.std.proofs.Common.{List, ℕ, ap, sym}
-use Rattle.tab_drive.specs.Walk.{reply_outcome}
+use Rattle.tab_drive.specs.RunStates.{reply_outcome}
 use Rattle.tab_drive.specs.Stores.{held_by}
 use Rattle.tab_drive.proofs.SessionSteps.{suits_decided, denied_text}
 use Rattle.tab_drive.proofs.session.prepare.Goals as goal

@@ -2,7 +2,7 @@ use Rattle.std.proofs.Common.{rules}
 use Rattle.std.proofs.lemmas.Fn.{always_returns_same}
 use Rattle.std.specs.Ordering.{is_lt}
 use Rattle.tab_keys.specs.Order.{name_cmp}
-use Rattle.tab_drive.proofs.TablePlaces.{partitioned, begins_at_point}
+use Rattle.tab_drive.proofs.TableIndexes.{partitioned, begins_at_point}
 use Rattle.tab_drive.proofs.tables.count_below.Goals as goal
 
 pub returns : goal.returns

@@ -3,7 +3,7 @@ use Rattle.std.proofs.lemmas.List.{take_rest}
 use Rattle.tab_history.specs.World.{names_from}
 use Rattle.tab_drive.specs.Tables.{spellings}
 use Rattle.tab_drive.proofs.TableLemmas.{names_from-first}
-use Rattle.tab_drive.proofs.TablePlaces.{names_from-begins}
+use Rattle.tab_drive.proofs.TableIndexes.{names_from-begins}
 use Rattle.tab_drive.proofs.tables.tables_from.Goals as goal
 
 pub returns-in-None : goal.returns-in-None

@@ -11,6 +11,6 @@ returns-in_ok-text-in-ValueType c =
     (IfOk-weaker c.fault_reply.result _ _
     (λ bytes written.
     written
-    ∙ ap (fault_at c.args.place 400 (codes "InvalidValueType"))
+    ∙ ap (fault_at c.args.index 400 (codes "InvalidValueType"))
     (c.as_str-in-ValueType.ensures.value ∙ c.in_ok-text-in-ValueType.ensures ∙ ap (λ name. codes "The value of " ++ name ++ codes " is not of its type.") c.as_str.ensures.text))
     c.fault_reply.ensures)

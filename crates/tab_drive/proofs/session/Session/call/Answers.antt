@@ -14,19 +14,19 @@ answer-requires-clause-in_form c =
     (subst (λ (d : Decided). IsDecision c.args.keys.now c.args.self.now.moment c.in-Ok.message d) c.in-Go.is c.in_ok-request-in-Ok.ensures))
 
 pub returns-in-Go-clause-ok : goal.returns-in-Go-clause-ok
-returns-in-Go-clause-ok c walk keeps =
+returns-in-Go-clause-ok c state keeps =
     ok_weaker c.answer.result _ _ c.answer.ensures.ok
-    (λ outgoing replied. replied_steps c.args.keys.now c.args.message walk c.args.self.now c.answer.new.self c.in-Go.request (outgoing_text outgoing) keeps
-    (comes_to c.args.keys.now c.args.self.now.moment walk.moment c.args.message c.in-Ok.message _ _ keeps.moment c.in-Ok.ensures.read c.in_ok-request-in-Ok.ensures c.in-Go.is) replied)
+    (λ outgoing replied. replied_steps c.args.keys.now c.args.message state c.args.self.now c.answer.new.self c.in-Go.request (outgoing_text outgoing) keeps
+    (comes_to c.args.keys.now c.args.self.now.moment state.moment c.args.message c.in-Ok.message _ _ keeps.moment c.in-Ok.ensures.read c.in_ok-request-in-Ok.ensures c.in-Go.is) replied)
 
 pub returns-in-Ok-clause-ok : goal.returns-in-Ok-clause-ok
-returns-in-Ok-clause-ok c walk keeps =
-    refused_steps c.args.keys.now c.args.message _ _ walk c.args.self.now c.refuse.new.self keeps
-    (comes_to c.args.keys.now c.args.self.now.moment walk.moment c.args.message c.in-Ok.message _ _ keeps.moment c.in-Ok.ensures.read c.in_ok-request-in-Ok.ensures c.in-No.is)
+returns-in-Ok-clause-ok c state keeps =
+    refused_steps c.args.keys.now c.args.message _ _ state c.args.self.now c.refuse.new.self keeps
+    (comes_to c.args.keys.now c.args.self.now.moment state.moment c.args.message c.in-Ok.message _ _ keeps.moment c.in-Ok.ensures.read c.in_ok-request-in-Ok.ensures c.in-No.is)
     (ap outgoing_text c.refuse.ensures.text) c.refuse.ensures.kept
 
 pub returns-in-Some-clause-ok : goal.returns-in-Some-clause-ok
-returns-in-Some-clause-ok c walk keeps =
-    refused_steps c.args.keys.now c.args.message _ _ walk c.args.self.now c.refuse-in-Some.new.self keeps
-    (refused_comes c.args.keys.now walk.moment c.args.message c.in-Err.refused c.in-Some.reply.now c.in-Err.ensures.refused (sym c.in-Some.ensures))
+returns-in-Some-clause-ok c state keeps =
+    refused_steps c.args.keys.now c.args.message _ _ state c.args.self.now c.refuse-in-Some.new.self keeps
+    (refused_comes c.args.keys.now state.moment c.args.message c.in-Err.refused c.in-Some.reply.now c.in-Err.ensures.refused (sym c.in-Some.ensures))
     (ap outgoing_text c.refuse-in-Some.ensures.text) c.refuse-in-Some.ensures.kept

@@ -1,7 +1,7 @@
 use Rattle.std.proofs.Common.{◌∙◌, ℕ, List, length, subst}
 use Rattle.tab_drive.specs.Outgoing.{Wrote}
 use Rattle.tab_drive.proofs.Outcomes.{reply_line, reply_pieces}
-use Rattle.tab_drive.proofs.outgoing.write_reply.Goals as goal
+use Rattle.tab_drive.proofs.outgoing.write_reply_outcome.Goals as goal
 
 pub returns-clause-written : goal.returns-clause-written
 returns-clause-written g c =

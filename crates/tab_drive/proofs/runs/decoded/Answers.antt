@@ -5,7 +5,7 @@ use Rattle.base64.specs.declared.decode.DecodeAllocError.{DecodeAllocError}
 use Rattle.base64.specs.declared.decode.DecodeAllocError.TheVariants.{DecodeError as Failed}
 use Rattle.base64.specs.Engines.{standard}
 use Rattle.base64.specs.GeneralPurpose.{decoded_of, IsDecodeFailure}
-use Rattle.tab_drive.proofs.commands.decoded.Goals as goal
+use Rattle.tab_drive.proofs.runs.decoded.Goals as goal
 
 pub returns-in-Ok : goal.returns-in-Ok
 unfolding decoded_of

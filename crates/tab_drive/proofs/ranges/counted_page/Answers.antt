@@ -1,5 +1,5 @@
 use Rattle.tab_drive.proofs.RangeLemmas.{has_key, has_rows}
-use Rattle.tab_drive.proofs.paging.counted_page.Goals as goal
+use Rattle.tab_drive.proofs.ranges.counted_page.Goals as goal
 
 pub page-requires-clause-start : goal.page-requires-clause-start
 page-requires-clause-start g c = has_key c.args.keys.now _ c.requires.all

@@ -1,7 +1,7 @@
 use Rattle.std.proofs.Common.{◌≡◌, ◌≤◌, length}
 use Rattle.std.specs.Vec.Iter.{into_iter_items, into_iter_len}
 use Rattle.tab_ops.specs.Changes.{applied}
-use Rattle.tab_drive.proofs.applying.apply_changes.Given as goal
+use Rattle.tab_drive.proofs.stores.apply_changes.Given as goal
 
 abbrev pub invariant-loop-change : goal.invariant-loop-change
 invariant-loop-change l =

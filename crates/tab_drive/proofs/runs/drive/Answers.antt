@@ -1,6 +1,6 @@
 use Rattle.std.proofs.Common.{refl, arith}
 use Rattle.tab_drive.proofs.Completeness.{completed, status_listed}
-use Rattle.tab_drive.proofs.commands.drive.Goals as goal
+use Rattle.tab_drive.proofs.runs.drive.Goals as goal
 
 pub returns-in-Ok-clause-status : goal.returns-in-Ok-clause-status
 returns-in-Ok-clause-status g c = rw c.status_of.ensures (status_listed c.in-Ok.served.stop)

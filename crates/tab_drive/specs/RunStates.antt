@@ -1,4 +1,4 @@
--- The walk through a schedule: what each event takes from the history and gives as text.
+-- The states of a run of a schedule, and what each event takes from the history and gives as text.
 use Rattle.std.specs.Prelude.{◌≡◌, ℕ, ◌+◌, ◌-◌, ◌^◌, ◌<◌, ◌≤◌, ◌⊎◌, max, List, [], ◌∷◌, ◌++◌, length, codes, decimal, true, false, Option, Some, None, Result, Ok, Err, ⊤}
 use Rattle.std.specs.List.{flat_map}
 use Rattle.tab_keys.specs.declared.bounds.Bound.TheVariants.{At}
@@ -26,9 +26,9 @@ use Rattle.tab_drive.specs.Messages.{ComeTo}
 use Rattle.tab_drive.specs.declared.schedule.Scheduled.{Scheduled}
 use Rattle.tab_drive.specs.declared.schedule.Scheduled.TheVariants.{Now, Call}
 
--- where a walk stands: the moment, the next event's number, the least tick that the next change may have, and what
+-- where a run stands: the moment, the next event's number, the least tick that the next change may have, and what
 -- the history has come to
-pub record Walk : Type 0 where
+pub record RunState : Type 0 where
   pub moment : ℕ
   pub number : ℕ
   pub next_tick : ℕ
@@ -57,9 +57,9 @@ first_state = record { world = first_world; bounds = []; tables = []; doubts = [
 abbrev pub opening : Entry
 opening = Bounds (At 0 [] ∷ [])
 
--- where a walk begins
-unfoldable pub first_walk : ℕ → Walk
-first_walk moment = record { moment = moment; number = 1; next_tick = 0; past = after_all first_state (opening ∷ []) }
+-- where a run begins: behind the opening
+unfoldable pub opened_state : ℕ → RunState
+opened_state moment = record { moment = moment; number = 1; next_tick = 0; past = after_all first_state (opening ∷ []) }
 
 -- the least tick of the next change, after one entry and after several
 abbrev pub tick_after : ℕ → Option Doubt → ℕ
@@ -76,13 +76,13 @@ abbrev pub moment_after : ℕ → Scheduled → ℕ
 moment_after moment (Now later) = later
 moment_after moment (Call message) = moment
 
--- where the walk stands after an event that took these entries
-unfoldable pub walk_after : Walk → Scheduled → List Entry → Walk
-walk_after walk event entries = record {
-  moment = moment_after walk.moment event;
-  number = walk.number + 1;
-  next_tick = next_tick_after walk.next_tick entries;
-  past = after_all walk.past entries;
+-- the state after an event that took these entries
+unfoldable pub state_after : RunState → Scheduled → List Entry → RunState
+state_after state event entries = record {
+  moment = moment_after state.moment event;
+  number = state.number + 1;
+  next_tick = next_tick_after state.next_tick entries;
+  past = after_all state.past entries;
 }
 
 -- ---- requests
@@ -106,48 +106,48 @@ abbrev pub last_number : ℕ
 last_number = 2 ^ 64 - 1
 
 -- the tick of a change that stands: that of the moment, or the next one where that is later
-abbrev pub HasTick : Walk → Result ℕ OpRefused → Type 0
-HasTick walk (Ok tick) = tick ≡ max walk.moment walk.next_tick
-HasTick walk (Err refusal) = ⊤
+abbrev pub HasTick : RunState → Result ℕ OpRefused → Type 0
+HasTick state (Ok tick) = tick ≡ max state.moment state.next_tick
+HasTick state (Err refusal) = ⊤
 
 -- a number is left for a table that is made
-abbrev pub HasNumber : Walk → Option ℕ → Type 0
-HasNumber walk (Some table) = walk.past.world.next_table < last_number
-HasNumber walk None = ⊤
+abbrev pub HasNumber : RunState → Option ℕ → Type 0
+HasNumber state (Some table) = state.past.world.next_table < last_number
+HasNumber state None = ⊤
 
 -- no moment is left for the tick of the change that is asked for
-abbrev pub IsTimeSpent : Walk → Ask → Type 0
-IsTimeSpent walk (Writing group) = GREATEST < max walk.moment walk.next_tick
-IsTimeSpent walk _ = ⊥
+abbrev pub IsTimeSpent : RunState → Ask → Type 0
+IsTimeSpent state (Writing group) = GREATEST < max state.moment state.next_tick
+IsTimeSpent state _ = ⊥
 
 -- no number is left for the table that is to be made, and none has its name
-abbrev pub AreNumbersSpent : Walk → Ask → Type 0
-AreNumbersSpent walk (Creating name) = (table_of walk.past.world.names name ≡ None) × (last_number ≤ walk.past.world.next_table)
-AreNumbersSpent walk _ = ⊥
+abbrev pub AreNumbersSpent : RunState → Ask → Type 0
+AreNumbersSpent state (Creating name) = (table_of state.past.world.names name ≡ None) × (last_number ≤ state.past.world.next_table)
+AreNumbersSpent state _ = ⊥
 
 -- the reasons for which a request may be denied whatever the world is
-abbrev pub MayDeny : Walk → Ask → Why → Type 0
-MayDeny walk what NoTable = ⊥
-MayDeny walk what TableThere = ⊥
-MayDeny walk what NotFound = ⊥
-MayDeny walk what (Op refusal) = ⊥
-MayDeny walk what TimeSpent = IsTimeSpent walk what
-MayDeny walk what IdsSpent = AreNumbersSpent walk what
-MayDeny walk what Memory = ⊤
+abbrev pub MayDeny : RunState → Ask → Why → Type 0
+MayDeny state what NoTable = ⊥
+MayDeny state what TableThere = ⊥
+MayDeny state what NotFound = ⊥
+MayDeny state what (Op refusal) = ⊥
+MayDeny state what TimeSpent = IsTimeSpent state what
+MayDeny state what IdsSpent = AreNumbersSpent state what
+MayDeny state what Memory = ⊤
 
--- The entry answers the request, which has the walk's number. A request about the rows of a table that is not there is
+-- The entry answers the request, which has the number of the state. A request about the rows of a table that is not there is
 -- answered by its look-up. A change is answered only where a moment is left for its tick.
-abbrev pub IsAnswer : Walk → Ask → Entry → Type 0
-IsAnswer walk (Creating name) (Create ask made table) = (ask ≡ walk.number) × (made ≡ name) × HasNumber walk table
-IsAnswer walk (Dropping name) (Drop ask dropped stood) = (ask ≡ walk.number) × (dropped ≡ name)
-IsAnswer walk (Listing after top) (Listed ask from most names next) = (ask ≡ walk.number) × (from ≡ after) × (most ≡ top)
-IsAnswer walk (Getting name pk rk) (Get ask table p r found) = (ask ≡ walk.number) × (p ≡ pk) × (r ≡ rk)
-IsAnswer walk (Paging name options) (Page ask table asked page) = (ask ≡ walk.number) × (asked ≡ options)
-IsAnswer walk (Writing group) (Change ask now table acted result) =
-    (ask ≡ walk.number) × (now ≡ walk.moment) × (acted ≡ group) × (max walk.moment walk.next_tick ≤ GREATEST) × HasTick walk result
-IsAnswer walk what (Resolve ask name None) = (ask ≡ walk.number) × (name_of what ≡ Some name)
-IsAnswer walk what (Denied ask why) = (ask ≡ walk.number) × MayDeny walk what why
-IsAnswer walk what entry = ⊥
+abbrev pub IsAnswer : RunState → Ask → Entry → Type 0
+IsAnswer state (Creating name) (Create ask made table) = (ask ≡ state.number) × (made ≡ name) × HasNumber state table
+IsAnswer state (Dropping name) (Drop ask dropped stood) = (ask ≡ state.number) × (dropped ≡ name)
+IsAnswer state (Listing after top) (Listed ask from most names next) = (ask ≡ state.number) × (from ≡ after) × (most ≡ top)
+IsAnswer state (Getting name pk rk) (Get ask table p r found) = (ask ≡ state.number) × (p ≡ pk) × (r ≡ rk)
+IsAnswer state (Paging name options) (Page ask table asked page) = (ask ≡ state.number) × (asked ≡ options)
+IsAnswer state (Writing group) (Change ask now table acted result) =
+    (ask ≡ state.number) × (now ≡ state.moment) × (acted ≡ group) × (max state.moment state.next_tick ≤ GREATEST) × HasTick state result
+IsAnswer state what (Resolve ask name None) = (ask ≡ state.number) × (name_of what ≡ Some name)
+IsAnswer state what (Denied ask why) = (ask ≡ state.number) × MayDeny state what why
+IsAnswer state what entry = ⊥
 
 -- the reply that an entry stands for
 abbrev pub reply_of : Entry → Option Reply
@@ -191,16 +191,16 @@ StandsBehind (Denied ask Memory) = ⊤
 StandsBehind _ = ⊥
 
 -- a look-up that found the table, and the answer behind it
-pub record LooksUp (walk : Walk) (what : Ask) (answer : Entry) (entries : List Entry) : Type 0 where
+pub record LooksUp (state : RunState) (what : Ask) (answer : Entry) (entries : List Entry) : Type 0 where
   pub name : List ℕ
   pub named : name_of what ≡ Some name
   pub table : ℕ
   pub behind : StandsBehind answer
-  pub entries_are : entries ≡ Resolve walk.number name (Some table) ∷ answer ∷ []
+  pub entries_are : entries ≡ Resolve state.number name (Some table) ∷ answer ∷ []
 
 -- a request's entries: its look-up and its answer, or its answer alone
-abbrev pub Takes : Walk → Ask → Entry → List Entry → Type 0
-Takes walk what answer entries = LooksUp walk what answer entries ⊎ (StandsAlone answer × (entries ≡ answer ∷ []))
+abbrev pub Takes : RunState → Ask → Entry → List Entry → Type 0
+Takes state what answer entries = LooksUp state what answer entries ⊎ (StandsAlone answer × (entries ≡ answer ∷ []))
 
 -- the line of a reply's length, its bytes, and a line's end
 unfoldable pub reply_outcome : List ℕ → List ℕ
@@ -211,40 +211,40 @@ unfoldable pub done_outcome : List ℕ
 done_outcome = codes "ok\n"
 
 -- a message asks something, and is answered and replied to
-pub record Answers (keys : Keys) (walk : Walk) (message : List ℕ) (entries : List Entry) (text : List ℕ) : Type 0 where
+pub record Answers (keys : Keys) (state : RunState) (message : List ℕ) (entries : List Entry) (text : List ℕ) : Type 0 where
   pub request : Request
-  pub comes : ComeTo keys walk.moment message (Go request)
+  pub comes : ComeTo keys state.moment message (Go request)
   pub answer : Entry
-  pub answers : IsAnswer walk request.ask answer
-  pub takes : Takes walk request.ask answer entries
+  pub answers : IsAnswer state request.ask answer
+  pub takes : Takes state request.ask answer entries
   pub reply : Reply
   pub replies : reply_of answer ≡ Some reply
   pub written : text ≡ reply_outcome (reply_text request reply)
 
 -- a message is refused before the store is asked, and takes no entry
-pub record Refuses (keys : Keys) (walk : Walk) (message : List ℕ) (entries : List Entry) (text : List ℕ) : Type 0 where
+pub record Refuses (keys : Keys) (state : RunState) (message : List ℕ) (entries : List Entry) (text : List ℕ) : Type 0 where
   pub reply : List ℕ
-  pub comes : ComeTo keys walk.moment message (No reply)
+  pub comes : ComeTo keys state.moment message (No reply)
   pub none : entries ≡ []
   pub written : text ≡ reply_outcome reply
 
 -- what may happen at an event: the entries that it takes and the text that it gives
-abbrev pub Happens : Keys → Walk → Scheduled → List Entry → List ℕ → Type 0
-Happens keys walk (Now moment) entries text = (entries ≡ []) × (text ≡ done_outcome)
-Happens keys walk (Call message) entries text = Answers keys walk message entries text ⊎ Refuses keys walk message entries text
+abbrev pub Happens : Keys → RunState → Scheduled → List Entry → List ℕ → Type 0
+Happens keys state (Now moment) entries text = (entries ≡ []) × (text ≡ done_outcome)
+Happens keys state (Call message) entries text = Answers keys state message entries text ⊎ Refuses keys state message entries text
 
--- each exchange is what may happen where the walk stands before it
-abbrev pub Follows : Keys → Walk → List Exchange → Type 0
-Follows keys walk [] = ⊤
-Follows keys walk (exchange ∷ exchanges) =
-    Fits exchange.event × (walk.number < last_number)
-    × Happens keys walk exchange.event exchange.entries exchange.text
-    × Follows keys (walk_after walk exchange.event exchange.entries) exchanges
+-- each exchange is what may happen in the state before it
+abbrev pub Follows : Keys → RunState → List Exchange → Type 0
+Follows keys state [] = ⊤
+Follows keys state (exchange ∷ exchanges) =
+    Fits exchange.event × (state.number < last_number)
+    × Happens keys state exchange.event exchange.entries exchange.text
+    × Follows keys (state_after state exchange.event exchange.entries) exchanges
 
--- where the walk stands after exchanges
-abbrev pub walk_after_all : Walk → List Exchange → Walk
-walk_after_all walk [] = walk
-walk_after_all walk (exchange ∷ exchanges) = walk_after_all (walk_after walk exchange.event exchange.entries) exchanges
+-- the state after exchanges
+abbrev pub state_after_all : RunState → List Exchange → RunState
+state_after_all state [] = state
+state_after_all state (exchange ∷ exchanges) = state_after_all (state_after state exchange.event exchange.entries) exchanges
 
 -- the bytes read, the entries taken and the text given, one exchange after another
 abbrev pub bytes_of : List Exchange → List ℕ
@@ -256,6 +256,6 @@ entries_of exchanges = flat_map (λ exchange. exchange.entries) exchanges
 abbrev pub text_of : List Exchange → List ℕ
 text_of exchanges = flat_map (λ exchange. exchange.text) exchanges
 
--- the walk goes on with no event of these bytes: none is spelled there, or numbers have run out
-abbrev pub IsRefused : Walk → List ℕ → Type 0
-IsRefused walk bytes = IsNoEvent bytes ⊎ ((last_number ≤ walk.number) × ((rest : List ℕ) → bytes ≡ end_line ++ rest → ⊥))
+-- the run goes on with no event of these bytes: none is spelled there, or numbers have run out
+abbrev pub IsRefused : RunState → List ℕ → Type 0
+IsRefused state bytes = IsNoEvent bytes ⊎ ((last_number ≤ state.number) × ((rest : List ℕ) → bytes ≡ end_line ++ rest → ⊥))

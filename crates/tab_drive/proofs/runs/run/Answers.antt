@@ -1,6 +1,6 @@
 use Rattle.std.proofs.Common.{refl, arith}
 use Rattle.tab_drive.proofs.FirstWorld.{gives_followed, gives_still, rises, tells_rows, numbers, made, hides}
-use Rattle.tab_drive.proofs.commands.run.Goals as goal
+use Rattle.tab_drive.proofs.runs.run.Goals as goal
 
 pub returns-in-Ok-Some-clause-followed : goal.returns-in-Ok-Some-clause-followed
 returns-in-Ok-Some-clause-followed g c = gives_followed c.drive.result.history c.drive.ensures.legal

@@ -3,7 +3,7 @@ use Rattle.std.specs.Prelude.{map, string_bytes}
 use Rattle.std.specs.Cmp.Lexicographic.{bytes_decides}
 use Rattle.tab_drive.specs.Commands.{is_account}
 use Rattle.tab_drive.proofs.Words.{three_items, drive_words, named_found}
-use Rattle.tab_drive.proofs.commands.keys_of.Goals as goal
+use Rattle.tab_drive.proofs.runs.keys_of.Goals as goal
 
 pub returns-then-is_account : goal.returns-then-is_account
 returns-then-is_account c =

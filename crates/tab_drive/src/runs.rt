@@ -8,13 +8,13 @@ ghost use Rattle.tab_history.specs.Legality.{Legal};
 ghost use Rattle.tab_history.specs.Followed.{FollowedWell, FollowedStill};
 ghost use Rattle.tab_history.specs.Ticks.{TicksRise, TicksTellRows};
 ghost use Rattle.tab_history.specs.Numbers.{NumbersRise, MadeNew, DropsHide};
-ghost use Rattle.tab_drive.specs.Walk.{first_state};
+ghost use Rattle.tab_drive.specs.RunStates.{first_state};
 ghost use Rattle.tab_drive.specs.Runs.{TookLine, usage_line, memory_line};
 ghost use Rattle.tab_drive.specs.Commands.{IsDrive, IsNoCommand, IsNamed, is_account, is_account_byte, key_of, status_of, line_of, Drives, SaidOnly, exit_statuses};
 ghost use Rattle.tab_drive.specs.Completeness.{IsServable};
 
 use crate::outgoing::write_pieces;
-use crate::serving::{Stop, serve};
+use crate::serving::{RunStop, serve};
 use base64::DecodeAllocError;
 use base64::engine::general_purpose::STANDARD;
 use itoa::Buffer;
@@ -228,27 +228,27 @@ fn is_account_byte(b: u8) -> bool
 }
 
 /// The exit status of a schedule that stopped so.
-fn status_of(stop: Stop) -> u8
+fn status_of(stop: RunStop) -> u8
     ensures { result ≡ status_of stop }
 {
     match stop {
-        Stop::End => 0,
-        Stop::Refused => 2,
-        Stop::ReadFault => 3,
-        Stop::WriteFault => 4,
-        Stop::Memory => 7,
+        RunStop::End => 0,
+        RunStop::Refused => 2,
+        RunStop::ReadFault => 3,
+        RunStop::WriteFault => 4,
+        RunStop::Memory => 7,
     }
 }
 
 /// Writes the last line of a schedule that stopped so behind this many events.
-fn write_last_line<K: Sink>(output: &mut K, stop: Stop, done: u64)
+fn write_last_line<K: Sink>(output: &mut K, stop: RunStop, done: u64)
     requires { done < 2 ^ 64 - 1 }
     ensures line { TookLine (K.taken output.old) (K.taken output.new) (K.faults output.old) (K.faults output.new) (line_of stop done) }
     ensures later { K.faults output.old ≤ K.faults output.new }
 {
     match stop {
-        Stop::End | Stop::WriteFault => {}
-        Stop::Refused => {
+        RunStop::End | RunStop::WriteFault => {}
+        RunStop::Refused => {
             let mut buffer = Buffer::new();
             let number = buffer.format(done + 1).as_bytes();
             write_line(
@@ -256,8 +256,8 @@ fn write_last_line<K: Sink>(output: &mut K, stop: Stop, done: u64)
                 &[b"event ".as_slice(), number, b" refused\n".as_slice()],
             );
         }
-        Stop::ReadFault => write_line(output, &[b"read fault\n".as_slice()]),
-        Stop::Memory => write_line(output, &[OUT_OF_MEMORY]),
+        RunStop::ReadFault => write_line(output, &[b"read fault\n".as_slice()]),
+        RunStop::Memory => write_line(output, &[OUT_OF_MEMORY]),
     }
 }
 

@@ -1,4 +1,4 @@
--- A refusal of a group names a place in it.
+-- A refusal of a group names an index in it.
 use Rattle.std.proofs.Common.{◌≡◌, ℕ, ◌+◌, ◌<◌, ◌≤◌, List, [], ◌∷◌, length, arith, subst, Bool, true, false, Option, Some, None, Result, Ok, Err}
 use Rattle.std.specs.Prelude.{IfErr, if◌then◌else◌, nat_lt, ⊤}
 use Rattle.tab_edm.specs.Entities.{EntityView, entity_size}
@@ -13,7 +13,7 @@ use Rattle.tab_ops.specs.declared.groups.OpRefused.TheVariants.{AlreadyThere, No
 use Rattle.tab_history.specs.declared.asks.Ask.TheVariants.{Change as Writing}
 use Rattle.tab_service.specs.Replies.{SuitsRefusal}
 
--- the place that it names is one of so many
+-- the index that it names is one of so many
 abbrev IsBelow : ℕ → OpRefused → Type 0
 IsBelow count (AlreadyThere index) = index < count
 IsBelow count (NotThere index) = index < count

@@ -1,4 +1,4 @@
-use Rattle.tab_drive.proofs.paging.whole_page.Given as goal
+use Rattle.tab_drive.proofs.ranges.whole_page.Given as goal
 
 abbrev pub ghosts-counted_page : goal.ghosts-counted_page
 ghosts-counted_page a = record { name = a.blank.name; parts = a.blank.parts }
