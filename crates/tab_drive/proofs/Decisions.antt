@@ -5,7 +5,7 @@ use Rattle.tab_http.specs.Heads.{HasNoHead}
 use Rattle.tab_http.specs.Messages.{Answer, Spells, IsParsers}
 use Rattle.tab_http.specs.declared.messages.Message.{Message}
 use Rattle.tab_http.specs.declared.refusals.HttpRefused.{HttpRefused}
-use Rattle.tab_http.specs.declared.refusals.HttpRefused.TheVariants.{EndInside, Malformed}
+use Rattle.tab_http.specs.declared.refusals.HttpRefused.TheVariants as http
 use Rattle.tab_service.specs.Decisions.{IsDecision}
 use Rattle.tab_service.specs.Refusals.{http_fault}
 use Rattle.tab_service.specs.declared.decisions.Decided.{Decided}
@@ -27,7 +27,7 @@ OneDecision = (keys : Keys) (moment : ℕ) (bytes : List ℕ) (a b : Decided) �
 
 -- the two refusals between which the parser decides
 abbrev IsParsersRefusal : Result Message HttpRefused → Type 0
-IsParsersRefusal found = (found ≡ Err Malformed) ⊎ (found ≡ Err EndInside)
+IsParsersRefusal found = (found ≡ Err http.Malformed) ⊎ (found ≡ Err http.EndInside)
 
 parsers_whole : (answer : Answer) → IsParsers answer → IsParsersRefusal (whole answer)
 parsers_whole answer (inl malformed) = inl (ap whole malformed)
@@ -56,10 +56,10 @@ same_refusal : (a b : HttpRefused) → ◌≡◌ {A = Result Message HttpRefused
 same_refusal a b is = cc
 
 -- the reply to either of the parser's refusals
-parsers_fault : (refused : HttpRefused) → IsParsersRefusal (Err refused) → http_fault refused ≡ http_fault EndInside
+parsers_fault : (refused : HttpRefused) → IsParsersRefusal (Err refused) → http_fault refused ≡ http_fault http.EndInside
 unfolding http_fault
-parsers_fault refused (inl is) = rw (same_refusal refused Malformed is) refl
-parsers_fault refused (inr is) = rw (same_refusal refused EndInside is) refl
+parsers_fault refused (inl is) = rw (same_refusal refused http.Malformed is) refl
+parsers_fault refused (inr is) = rw (same_refusal refused http.EndInside is) refl
 
 same_fault : (a b : HttpRefused) → (◌≡◌ {A = Result Message HttpRefused} (Err a) (Err b)) ⊎ (IsParsersRefusal (Err a) × IsParsersRefusal (Err b)) → http_fault a ≡ http_fault b
 same_fault a b (inl is) = ap http_fault (same_refusal a b is)

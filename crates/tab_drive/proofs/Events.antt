@@ -7,7 +7,7 @@ use Rattle.tab_drive.specs.Lines.{IsInRange, line_text}
 use Rattle.tab_drive.specs.Reading.{HasNoMessage, IfTold, IsOpenLine, IsOpenMessage, ReadsLine, ReadsMessage, Took, TookPart}
 use Rattle.tab_drive.specs.Reading.IsWithinOne.{in_line, at_line_end, behind_call}
 use Rattle.tab_drive.specs.declared.lines.ScheduleLine.{ScheduleLine}
-use Rattle.tab_drive.specs.declared.lines.ScheduleLine.TheVariants.{End as EndLine, Now as NowLine, Call as CallLine}
+use Rattle.tab_drive.specs.declared.lines.ScheduleLine.TheVariants as lines
 use Rattle.tab_drive.specs.declared.schedule.Scheduled.TheVariants.{Now, Call}
 use Rattle.tab_drive.proofs.OpenLines.{no_line_inside}
 use Rattle.tab_drive.proofs.Spellings.{no_event_no_line, no_event_no_message, no_event_other_line}
@@ -15,20 +15,20 @@ use Rattle.tab_drive.proofs.Told.{told_behind, told_front}
 
 -- ---- the events
 
-pub reads_end : (old new : Option (List ℕ)) (line : List ℕ) → ReadsLine old new line → line ≡ line_text EndLine → Consumes old new end_line
+pub reads_end : (old new : Option (List ℕ)) (line : List ℕ) → ReadsLine old new line → line ≡ line_text lines.End → Consumes old new end_line
 unfolding end_line
 reads_end old new line read is = subst (λ l. Consumes old new (l ++ line_feed ∷ [])) is read.consumed
 
-pub reads_now : (old new : Option (List ℕ)) (line : List ℕ) (moment : ℕ) → ReadsLine old new line → line ≡ line_text (NowLine moment) → Consumes old new (spelling (Now moment))
+pub reads_now : (old new : Option (List ℕ)) (line : List ℕ) (moment : ℕ) → ReadsLine old new line → line ≡ line_text (lines.Now moment) → Consumes old new (spelling (Now moment))
 unfolding spelling
 reads_now old new line moment read is = subst (λ l. Consumes old new (l ++ line_feed ∷ [])) is read.consumed
 
-pub reads_call : (old mid new : Option (List ℕ)) (line message : List ℕ) (size : ℕ) → ReadsLine old mid line → line ≡ line_text (CallLine size) → size ≤ longest_message
+pub reads_call : (old mid new : Option (List ℕ)) (line message : List ℕ) (size : ℕ) → ReadsLine old mid line → line ≡ line_text (lines.Call size) → size ≤ longest_message
     → ReadsMessage size mid new message → Fits (Call message) × Consumes old new (spelling (Call message))
 unfolding spelling
 reads_call old mid new line message size read is short came =
     let sized = came.0 in
-    let called : line ≡ line_text (CallLine (length message)) = is ∙ ap (λ n. line_text (CallLine n)) (sym sized) in
+    let called : line ≡ line_text (lines.Call (length message)) = is ∙ ap (λ n. line_text (lines.Call n)) (sym sized) in
     let whole = Consumes-trans old mid new (line ++ line_feed ∷ []) (message ++ line_feed ∷ []) read.consumed came.1 in
     (omega arith, subst (Consumes old new) (append_assoc line (line_feed ∷ []) (message ++ line_feed ∷ []) ∙ ap (λ l. l ++ line_feed ∷ (message ++ line_feed ∷ [])) called) whole)
 
@@ -50,13 +50,13 @@ part_to_line_end old new line read other = record {
   consumed = read.consumed;
 }
 
-pub part_behind_call : (old mid new : Option (List ℕ)) (line : List ℕ) (size : ℕ) → ReadsLine old mid line → line ≡ line_text (CallLine size) → size ≤ longest_message
+pub part_behind_call : (old mid new : Option (List ℕ)) (line : List ℕ) (size : ℕ) → ReadsLine old mid line → line ≡ line_text (lines.Call size) → size ≤ longest_message
     → Took (IsOpenMessage size) mid new → TookPart old new
 part_behind_call old mid new line size read is short took =
-    let parts : (line ++ line_feed ∷ []) ++ took.bytes ≡ line_text (CallLine size) ++ line_feed ∷ took.bytes =
+    let parts : (line ++ line_feed ∷ []) ++ took.bytes ≡ line_text (lines.Call size) ++ line_feed ∷ took.bytes =
     append_assoc line (line_feed ∷ []) took.bytes ∙ ap (λ l. l ++ line_feed ∷ took.bytes) is in
     record {
-      part = line_text (CallLine size) ++ line_feed ∷ took.bytes;
+      part = line_text (lines.Call size) ++ line_feed ∷ took.bytes;
       no_event = no_event_no_message size took.bytes short took.are.no_message;
       within = behind_call size took.bytes short took.are.bound refl;
       consumed = subst (Consumes old new) parts (Consumes-trans old mid new (line ++ line_feed ∷ []) took.bytes read.consumed took.consumed);
@@ -66,7 +66,7 @@ pub refused_line : (old new : Option (List ℕ)) (line : List ℕ) → ReadsLine
 refused_line old new line read other =
     told_front old new (line ++ line_feed ∷ []) IsNoEvent read.consumed (λ rest. subst IsNoEvent (sym (append_assoc line (line_feed ∷ []) rest)) (no_event_other_line line rest read.is_line other))
 
-pub refused_call : (old mid : Option (List ℕ)) (line : List ℕ) (size : ℕ) → ReadsLine old mid line → line ≡ line_text (CallLine size) → size ≤ longest_message
+pub refused_call : (old mid : Option (List ℕ)) (line : List ℕ) (size : ℕ) → ReadsLine old mid line → line ≡ line_text (lines.Call size) → size ≤ longest_message
     → IfTold mid (HasNoMessage size) → IfTold old IsNoEvent
 refused_call old mid line size read is short refused =
     told_behind old mid (line ++ line_feed ∷ []) IsNoEvent (HasNoMessage size) read.consumed refused

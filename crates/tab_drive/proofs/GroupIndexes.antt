@@ -9,18 +9,18 @@ use Rattle.tab_ops.specs.declared.ops.Match.{Match}
 use Rattle.tab_ops.specs.declared.ops.Op.{Op}
 use Rattle.tab_ops.specs.declared.ops.Op.TheVariants.{Insert, Update, Replace, Merge, MergeIn, Delete}
 use Rattle.tab_ops.specs.declared.groups.OpRefused.{OpRefused}
-use Rattle.tab_ops.specs.declared.groups.OpRefused.TheVariants.{AlreadyThere, NotThere, Condition, TooMany, TooLarge, Memory}
-use Rattle.tab_history.specs.declared.asks.Ask.TheVariants.{Change as Writing}
+use Rattle.tab_ops.specs.declared.groups.OpRefused.TheVariants as op
+use Rattle.tab_history.specs.declared.asks.Ask.TheVariants as ask
 use Rattle.tab_service.specs.Replies.{SuitsRefusal}
 
 -- the index that it names is one of so many
 abbrev IsBelow : ℕ → OpRefused → Type 0
-IsBelow count (AlreadyThere index) = index < count
-IsBelow count (NotThere index) = index < count
-IsBelow count (Condition index tick) = index < count
-IsBelow count (TooMany index) = index < count
-IsBelow count (TooLarge index) = index < count
-IsBelow count Memory = ⊤
+IsBelow count (op.AlreadyThere index) = index < count
+IsBelow count (op.NotThere index) = index < count
+IsBelow count (op.Condition index tick) = index < count
+IsBelow count (op.TooMany index) = index < count
+IsBelow count (op.TooLarge index) = index < count
+IsBelow count op.Memory = ⊤
 
 either_below : {A : Type 0} (P : OpRefused → Type 0) (test : Bool) (a b : Result A OpRefused) → IfErr a P → IfErr b P → IfErr (if test then a else b) P
 either_below P true a b x y = x
@@ -37,7 +37,7 @@ merge_below index count kept given below = limits_below index count (record give
 
 condition_below : (index count : ℕ) (condition : Match) (kept : ℕ) (outcome : Result (Option EntityView) OpRefused) → index < count → IfErr outcome (IsBelow count)
     → IfErr (on_condition index condition kept outcome) (IsBelow count)
-condition_below index count condition kept outcome below holds = either_below (IsBelow count) (meets condition kept) outcome (Err (Condition index kept)) holds below
+condition_below index count condition kept outcome below holds = either_below (IsBelow count) (meets condition kept) outcome (Err (op.Condition index kept)) holds below
 
 outcome_below : (index count : ℕ) (row : Option RowView) (op : Op) → index < count → IfErr (outcome_of index row op) (IsBelow count)
 outcome_below index count None (Insert entity) below = tt
@@ -69,15 +69,15 @@ refused_below : (rows : List RowView) (table tick : ℕ) (group : List ItemView)
 refused_below rows table tick group refusal is =
     subst (λ (outcome : Result (List RowView) OpRefused). IfErr outcome (IsBelow (length group))) is (items_below 0 (length group) rows table tick group (omega arith))
 
-placed : (group : List ItemView) (refusal : OpRefused) → IsBelow (length group) refusal → IsTimely refusal → SuitsRefusal (Writing group) refusal
-placed group (AlreadyThere index) below timely = below
-placed group (NotThere index) below timely = below
-placed group (Condition index tick) below timely = (below, timely)
-placed group (TooMany index) below timely = below
-placed group (TooLarge index) below timely = below
-placed group Memory below timely = tt
+placed : (group : List ItemView) (refusal : OpRefused) → IsBelow (length group) refusal → IsTimely refusal → SuitsRefusal (ask.Change group) refusal
+placed group (op.AlreadyThere index) below timely = below
+placed group (op.NotThere index) below timely = below
+placed group (op.Condition index tick) below timely = (below, timely)
+placed group (op.TooMany index) below timely = below
+placed group (op.TooLarge index) below timely = below
+placed group op.Memory below timely = tt
 
 -- so it is one that its change may have
 pub suits_refusal : (rows : List RowView) (table tick : ℕ) (group : List ItemView) (refusal : OpRefused) → group_outcome rows table tick group ≡ Err refusal → IsTimely refusal
-    → SuitsRefusal (Writing group) refusal
+    → SuitsRefusal (ask.Change group) refusal
 suits_refusal rows table tick group refusal is timely = placed group refusal (refused_below rows table tick group refusal is) timely

@@ -4,7 +4,7 @@ use Rattle.std.proofs.lemmas.Fmt.{decimal_injective, length-decimal-le}
 use Rattle.tab_drive.specs.Schedule.{line_feed, longest_message}
 use Rattle.tab_drive.specs.Lines.{IsLine, IsInRange, line_text, longest_line}
 use Rattle.tab_drive.specs.declared.lines.ScheduleLine.{ScheduleLine}
-use Rattle.tab_drive.specs.declared.lines.ScheduleLine.TheVariants.{End, Now, Call}
+use Rattle.tab_drive.specs.declared.lines.ScheduleLine.TheVariants as lines
 use Rattle.tab_drive.proofs.Decimals.{IsLine-decimal}
 use Rattle.tab_drive.proofs.OpenLines.{IsLine-append}
 
@@ -38,35 +38,35 @@ split_length (c ∷ a) (d ∷ b) x y sized is =
 
 -- the text of a line has no line feed
 pub IsLine-line_text : (line : ScheduleLine) → IsInRange line → IsLine (line_text line)
-IsLine-line_text End range = (λ is. omega arith, (λ is. omega arith, (λ is. omega arith, tt)))
-IsLine-line_text (Now moment) range =
+IsLine-line_text lines.End range = (λ is. omega arith, (λ is. omega arith, (λ is. omega arith, tt)))
+IsLine-line_text (lines.Now moment) range =
     IsLine-append (codes "now ") _ (λ is. omega arith, (λ is. omega arith, (λ is. omega arith, (λ is. omega arith, tt)))) (IsLine-decimal moment range)
-IsLine-line_text (Call size) range =
+IsLine-line_text (lines.Call size) range =
     IsLine-append (codes "call ") _ (λ is. omega arith, (λ is. omega arith, (λ is. omega arith, (λ is. omega arith, (λ is. omega arith, tt))))) (IsLine-decimal size (omega arith))
 
 -- and is short
 pub length-line_text : (line : ScheduleLine) → IsInRange line → length (line_text line) ≤ longest_line
-length-line_text End range = omega arith
-length-line_text (Now moment) range = omega (arith, length-append (codes "now ") (decimal moment), length-decimal-le 20 moment (omega arith) (omega arith) range)
-length-line_text (Call size) range = omega (arith, length-append (codes "call ") (decimal size), length-decimal-le 20 size (omega arith) (omega arith) (omega arith))
+length-line_text lines.End range = omega arith
+length-line_text (lines.Now moment) range = omega (arith, length-append (codes "now ") (decimal moment), length-decimal-le 20 moment (omega arith) (omega arith) range)
+length-line_text (lines.Call size) range = omega (arith, length-append (codes "call ") (decimal size), length-decimal-le 20 size (omega arith) (omega arith) (omega arith))
 
 -- one text says one thing
 pub line_text_injective : (a b : ScheduleLine) → IsInRange a → IsInRange b → line_text a ≡ line_text b → a ≡ b
-line_text_injective End End a_range b_range is = refl
-line_text_injective End (Now moment) a_range b_range is = absurd (heads_differ 101 110 _ _ (λ no. omega arith) is)
-line_text_injective End (Call size) a_range b_range is = absurd (heads_differ 101 99 _ _ (λ no. omega arith) is)
-line_text_injective (Now moment) End a_range b_range is = absurd (heads_differ 110 101 _ _ (λ no. omega arith) is)
-line_text_injective (Now moment) (Now other) a_range b_range is = ap Now (decimal_injective moment other a_range b_range (ap (drop 4) is))
-line_text_injective (Now moment) (Call size) a_range b_range is = absurd (heads_differ 110 99 _ _ (λ no. omega arith) is)
-line_text_injective (Call size) End a_range b_range is = absurd (heads_differ 99 101 _ _ (λ no. omega arith) is)
-line_text_injective (Call size) (Now moment) a_range b_range is = absurd (heads_differ 99 110 _ _ (λ no. omega arith) is)
-line_text_injective (Call size) (Call other) a_range b_range is = ap Call (decimal_injective size other (omega arith) (omega arith) (ap (drop 5) is))
+line_text_injective lines.End lines.End a_range b_range is = refl
+line_text_injective lines.End (lines.Now moment) a_range b_range is = absurd (heads_differ 101 110 _ _ (λ no. omega arith) is)
+line_text_injective lines.End (lines.Call size) a_range b_range is = absurd (heads_differ 101 99 _ _ (λ no. omega arith) is)
+line_text_injective (lines.Now moment) lines.End a_range b_range is = absurd (heads_differ 110 101 _ _ (λ no. omega arith) is)
+line_text_injective (lines.Now moment) (lines.Now other) a_range b_range is = ap lines.Now (decimal_injective moment other a_range b_range (ap (drop 4) is))
+line_text_injective (lines.Now moment) (lines.Call size) a_range b_range is = absurd (heads_differ 110 99 _ _ (λ no. omega arith) is)
+line_text_injective (lines.Call size) lines.End a_range b_range is = absurd (heads_differ 99 101 _ _ (λ no. omega arith) is)
+line_text_injective (lines.Call size) (lines.Now moment) a_range b_range is = absurd (heads_differ 99 110 _ _ (λ no. omega arith) is)
+line_text_injective (lines.Call size) (lines.Call other) a_range b_range is = ap lines.Call (decimal_injective size other (omega arith) (omega arith) (ap (drop 5) is))
 
 -- a line that calls for a longer message than may be says nothing
 pub call_too_long : (line digits : List ℕ) (size : ℕ) → line ≡ codes "call " ++ digits → digits ≡ decimal size → size < 2 ^ 64 → longest_message < size
     → (parsed : ScheduleLine) → IsInRange parsed → line ≢ line_text parsed
-call_too_long line digits size parts spelled small long End range is = heads_differ 99 101 _ _ (omega arith) (sym parts ∙ is)
-call_too_long line digits size parts spelled small long (Now moment) range is = heads_differ 99 110 _ _ (omega arith) (sym parts ∙ is)
-call_too_long line digits size parts spelled small long (Call other) range is =
+call_too_long line digits size parts spelled small long lines.End range is = heads_differ 99 101 _ _ (omega arith) (sym parts ∙ is)
+call_too_long line digits size parts spelled small long (lines.Now moment) range is = heads_differ 99 110 _ _ (omega arith) (sym parts ∙ is)
+call_too_long line digits size parts spelled small long (lines.Call other) range is =
     let same : decimal size ≡ decimal other = sym spelled ∙ ap (drop 5) (sym parts ∙ is) in
     omega (arith, decimal_injective size other small (omega arith) same)

@@ -13,22 +13,22 @@ use Rattle.tab_ops.proofs.GroupLaws.{refused_at_any_tick}
 use Rattle.tab_history.specs.World.{table_of, floor_of, raised, IsNextTick, MayHaveTick}
 use Rattle.tab_history.specs.Legality.{Legal, after_all}
 use Rattle.tab_history.specs.declared.entries.Entry.{Entry}
-use Rattle.tab_history.specs.declared.entries.Entry.TheVariants.{Resolve, Get, Page, Change, Create, Drop, List as Listed, Denied}
-use Rattle.tab_history.specs.declared.entries.Denied.TheVariants.{NoTable, TableThere, Op, TimeSpent, IdsSpent, Memory}
+use Rattle.tab_history.specs.declared.entries.Entry.TheVariants as entry
+use Rattle.tab_history.specs.declared.entries.Denied.TheVariants as denied
 use Rattle.tab_history.specs.declared.asks.Ask.{Ask}
-use Rattle.tab_history.specs.declared.asks.Ask.TheVariants.{Create as Creating, Drop as Dropping, Tables as Listing, Get as Getting, Page as Paging, Change as Writing}
-use Rattle.tab_history.specs.declared.asks.Reply.TheVariants.{Listed as PageGiven, Changed as Written, Made, Dropped as Gone}
+use Rattle.tab_history.specs.declared.asks.Ask.TheVariants as ask
+use Rattle.tab_history.specs.declared.asks.Reply.TheVariants as reply
 use Rattle.tab_history.proofs.ChangeLaws.{may_have_next, next_tick-raised, table_for-first}
 use Rattle.tab_page.specs.Pages.{page_of, page_below, start_key}
 use Rattle.tab_page.proofs.PageLaws.{end_above-first}
 use Rattle.tab_page.specs.declared.pages.Options.{Options}
 use Rattle.tab_drive.specs.RunStates.{RunState, opened_state, group_name, name_of, last_number, IsAnswer, Takes, reply_of, next_tick_after, state_after}
-use Rattle.tab_drive.specs.Stores.{Held, held_then, denied, answered, found_or_not, Names, Gets, Pages, OnTable, Lacks, Makes, IsRefusedGroup, LacksMoment, IsDecided}
+use Rattle.tab_drive.specs.Stores.{Held, held_then, denial, answered, found_or_not, Names, Gets, Pages, OnTable, Lacks, Makes, IsRefusedGroup, LacksMoment, IsDecided}
 use Rattle.tab_drive.specs.Sessions.{held_in, IsServing, entries_by, entries_for}
 use Rattle.tab_drive.specs.declared.look_ups.LookUp.{LookUp}
 use Rattle.tab_drive.specs.declared.schedule.Scheduled.{Scheduled}
 use Rattle.tab_drive.specs.declared.stores.StoreAnswer.{StoreAnswer}
-use Rattle.tab_drive.specs.declared.stores.Effect.TheVariants.{Change as Changing, Create as Making, Drop as Taking}
+use Rattle.tab_drive.specs.declared.stores.Effect.TheVariants as effect
 
 -- what a store holds after these entries
 abbrev pub held_after : RunState → List Entry → Held
@@ -68,9 +68,9 @@ first_serving moment = record {
 -- ---- commands on tables
 
 adds_created : (state : RunState) (name : List ℕ) → IsServing state → table_of state.past.world.names name ≡ None → state.past.world.next_table < last_number
-    → AddsBy state (Creating name) None (record { reply = Made name; effect = Making name })
+    → AddsBy state (ask.Create name) None (record { reply = reply.Made name; effect = effect.Create name })
 adds_created state name serving absent numbered = record {
-  answer = Create state.number name (Some state.past.world.next_table);
+  answer = entry.Create state.number name (Some state.past.world.next_table);
   answers = (refl, refl, numbered);
   takes = inr (tt, refl);
   replies = refl;
@@ -80,9 +80,9 @@ adds_created state name serving absent numbered = record {
   bounds = serving.bounds;
 }
 
-adds_there : (state : RunState) (name : List ℕ) → IsServing state → is_some (table_of state.past.world.names name) ≡ true → AddsBy state (Creating name) None (denied TableThere)
+adds_there : (state : RunState) (name : List ℕ) → IsServing state → is_some (table_of state.past.world.names name) ≡ true → AddsBy state (ask.Create name) None (denial denied.TableThere)
 adds_there state name serving there = record {
-  answer = Create state.number name None;
+  answer = entry.Create state.number name None;
   answers = (refl, refl, tt);
   takes = inr (tt, refl);
   replies = refl;
@@ -93,9 +93,9 @@ adds_there state name serving there = record {
 }
 
 adds_numbers_spent : (state : RunState) (name : List ℕ) → IsServing state → table_of state.past.world.names name ≡ None → last_number ≤ state.past.world.next_table
-    → AddsBy state (Creating name) None (denied IdsSpent)
+    → AddsBy state (ask.Create name) None (denial denied.IdsSpent)
 adds_numbers_spent state name serving absent spent = record {
-  answer = Denied state.number IdsSpent;
+  answer = entry.Denied state.number denied.IdsSpent;
   answers = (refl, (absent, spent));
   takes = inr (tt, refl);
   replies = refl;
@@ -106,9 +106,9 @@ adds_numbers_spent state name serving absent spent = record {
 }
 
 adds_dropped : (state : RunState) (name : List ℕ) → IsServing state → is_some (table_of state.past.world.names name) ≡ true
-    → AddsBy state (Dropping name) None (record { reply = Gone; effect = Taking name })
+    → AddsBy state (ask.Drop name) None (record { reply = reply.Dropped; effect = effect.Drop name })
 adds_dropped state name serving there = record {
-  answer = Drop state.number name true;
+  answer = entry.Drop state.number name true;
   answers = (refl, refl);
   takes = inr (tt, refl);
   replies = refl;
@@ -118,9 +118,9 @@ adds_dropped state name serving there = record {
   bounds = serving.bounds;
 }
 
-adds_none : (state : RunState) (name : List ℕ) → IsServing state → is_some (table_of state.past.world.names name) ≡ false → AddsBy state (Dropping name) None (denied NoTable)
+adds_none : (state : RunState) (name : List ℕ) → IsServing state → is_some (table_of state.past.world.names name) ≡ false → AddsBy state (ask.Drop name) None (denial denied.NoTable)
 adds_none state name serving absent = record {
-  answer = Drop state.number name false;
+  answer = entry.Drop state.number name false;
   answers = (refl, refl);
   takes = inr (tt, refl);
   replies = refl;
@@ -131,10 +131,10 @@ adds_none state name serving absent = record {
 }
 
 adds_names : (state : RunState) (after : Option (List ℕ)) (top : ℕ) (decided : StoreAnswer) → IsServing state
-    → Names (held_in state) after top decided → AddsBy state (Listing after top) None decided
+    → Names (held_in state) after top decided → AddsBy state (ask.Tables after top) None decided
 adds_names state after top decided serving is =
-    adds_as state (Listing after top) None decided _ is (record {
-      answer = Listed state.number after top _ _;
+    adds_as state (ask.Tables after top) None decided _ is (record {
+      answer = entry.List state.number after top _ _;
       answers = (refl, refl, refl);
       takes = inr (tt, refl);
       replies = refl;
@@ -145,9 +145,9 @@ adds_names state after top decided serving is =
     })
 
 -- no memory, for a command on tables
-adds_alone : (state : RunState) (what : Ask) (serving : IsServing state) → (answers : IsAnswer state what (Denied state.number Memory)) → Adds state what (denied Memory) (Denied state.number Memory ∷ [])
+adds_alone : (state : RunState) (what : Ask) (serving : IsServing state) → (answers : IsAnswer state what (entry.Denied state.number denied.Memory)) → Adds state what (denial denied.Memory) (entry.Denied state.number denied.Memory ∷ [])
 adds_alone state what serving answers = record {
-  answer = Denied state.number Memory;
+  answer = entry.Denied state.number denied.Memory;
   answers = answers;
   takes = inr (tt, refl);
   replies = refl;
@@ -165,9 +165,9 @@ found name table = Some (record { name = name; table = table })
 
 -- that found no table
 adds_missing : (state : RunState) (what : Ask) (name : List ℕ) → IsServing state → table_of state.past.world.names name ≡ None
-    → IsAnswer state what (Resolve state.number name None) → AddsBy state what (found name None) (denied NoTable)
+    → IsAnswer state what (entry.Resolve state.number name None) → AddsBy state what (found name None) (denial denied.NoTable)
 adds_missing state what name serving absent answers = record {
-  answer = Resolve state.number name None;
+  answer = entry.Resolve state.number name None;
   answers = answers;
   takes = inr (tt, refl);
   replies = refl;
@@ -179,9 +179,9 @@ adds_missing state what name serving absent answers = record {
 
 -- that found one, where no memory was found behind it
 adds_denied : (state : RunState) (what : Ask) (name : List ℕ) (table : ℕ) → IsServing state → table_of state.past.world.names name ≡ Some table → name_of what ≡ Some name
-    → IsAnswer state what (Denied state.number Memory) → Adds state what (denied Memory) (Resolve state.number name (Some table) ∷ Denied state.number Memory ∷ [])
+    → IsAnswer state what (entry.Denied state.number denied.Memory) → Adds state what (denial denied.Memory) (entry.Resolve state.number name (Some table) ∷ entry.Denied state.number denied.Memory ∷ [])
 adds_denied state what name table serving there named answers = record {
-  answer = Denied state.number Memory;
+  answer = entry.Denied state.number denied.Memory;
   answers = answers;
   takes = inl (record { name = name; named = named; table = table; behind = tt; entries_are = refl });
   replies = refl;
@@ -199,9 +199,9 @@ page_is state table options serving =
     rw serving.bounds (ap (λ (end : Bound). page_below state.past.world.rows table options end) (end_above-first (start_key table options)))
 
 adds_page : (state : RunState) (name : List ℕ) (table : ℕ) (options : Options) → IsServing state → table_of state.past.world.names name ≡ Some table
-    → AddsBy state (Paging name options) (found name (Some table)) (answered (PageGiven (page_below state.past.world.rows table options End)))
+    → AddsBy state (ask.Page name options) (found name (Some table)) (answered (reply.Listed (page_below state.past.world.rows table options End)))
 adds_page state name table options serving there = record {
-  answer = Page state.number table options (page_below state.past.world.rows table options End);
+  answer = entry.Page state.number table options (page_below state.past.world.rows table options End);
   answers = (refl, refl);
   takes = inl (record { name = name; named = refl; table = table; behind = tt; entries_are = refl });
   replies = refl;
@@ -213,9 +213,9 @@ adds_page state name table options serving there = record {
 
 -- the row at a key, or that there is none
 adds_found : (state : RunState) (name : List ℕ) (table : ℕ) (pk rk : List ℕ) (row : Option RowView) → IsServing state → table_of state.past.world.names name ≡ Some table
-    → row_at state.past.world.rows (record { table = table; pk = pk; rk = rk }) ≡ row → AddsBy state (Getting name pk rk) (found name (Some table)) (answered (found_or_not row))
+    → row_at state.past.world.rows (record { table = table; pk = pk; rk = rk }) ≡ row → AddsBy state (ask.Get name pk rk) (found name (Some table)) (answered (found_or_not row))
 adds_found state name table pk rk (Some row) serving there is = record {
-  answer = Get state.number table pk rk (Some row);
+  answer = entry.Get state.number table pk rk (Some row);
   answers = (refl, refl, refl);
   takes = inl (record { name = name; named = refl; table = table; behind = tt; entries_are = refl });
   replies = refl;
@@ -225,7 +225,7 @@ adds_found state name table pk rk (Some row) serving there is = record {
   bounds = serving.bounds;
 }
 adds_found state name table pk rk None serving there is = record {
-  answer = Get state.number table pk rk None;
+  answer = entry.Get state.number table pk rk None;
   answers = (refl, refl, refl);
   takes = inl (record { name = name; named = refl; table = table; behind = tt; entries_are = refl });
   replies = refl;
@@ -260,13 +260,13 @@ floors_after state table tick (item ∷ items) serving is_group is =
 -- a change that stands
 adds_changes : (state : RunState) (group : List ItemView) (table tick : ℕ) (made : Changes) → IsServing state → IsGroup group → table_of state.past.world.names (group_name group) ≡ Some table
     → tick ≡ max state.moment state.next_tick → tick ≤ GREATEST → made.tick ≡ tick → group_outcome state.past.world.rows table tick group ≡ Ok (applied state.past.world.rows made.list)
-    → AddsBy state (Writing group) (found (group_name group) (Some table)) (record { reply = Written tick; effect = Changing made })
+    → AddsBy state (ask.Change group) (found (group_name group) (Some table)) (record { reply = reply.Changed tick; effect = effect.Change made })
 adds_changes state group table tick made serving is_group there is in_time tick_is outcome =
     let greatest : max state.moment state.next_tick ≤ GREATEST = omega (arith, is, in_time) in
     let may : MayHaveTick state.past.world.floors (group_keys table group) state.moment tick =
     rw is (may_have_next state.past.world.floors state.next_tick state.moment (group_keys table group) serving.floors greatest) in
     record {
-      answer = Change state.number state.moment table group (Ok tick);
+      answer = entry.Change state.number state.moment table group (Ok tick);
       answers = (refl, refl, refl, greatest, is);
       takes = inl (record { name = group_name group; named = refl; table = table; behind = tt; entries_are = refl });
       replies = refl;
@@ -279,9 +279,9 @@ adds_changes state group table tick made serving is_group there is in_time tick_
 -- a change that is refused
 adds_refusal : (state : RunState) (group : List ItemView) (table : ℕ) (refusal : OpRefused) → IsServing state → IsGroup group → table_of state.past.world.names (group_name group) ≡ Some table
     → max state.moment state.next_tick ≤ GREATEST → group_outcome state.past.world.rows table (max state.moment state.next_tick) group ≡ Err refusal
-    → AddsBy state (Writing group) (found (group_name group) (Some table)) (denied (Op refusal))
+    → AddsBy state (ask.Change group) (found (group_name group) (Some table)) (denial (denied.Op refusal))
 adds_refusal state group table refusal serving is_group there in_time outcome = record {
-  answer = Change state.number state.moment table group (Err refusal);
+  answer = entry.Change state.number state.moment table group (Err refusal);
   answers = (refl, refl, refl, in_time, tt);
   takes = inl (record { name = group_name group; named = refl; table = table; behind = tt; entries_are = refl });
   replies = refl;
@@ -296,9 +296,9 @@ adds_refusal state group table refusal serving is_group there in_time outcome = 
 
 -- a change for whose tick no moment is left
 adds_spent : (state : RunState) (group : List ItemView) (table : ℕ) → IsServing state → table_of state.past.world.names (group_name group) ≡ Some table
-    → GREATEST < max state.moment state.next_tick → AddsBy state (Writing group) (found (group_name group) (Some table)) (denied TimeSpent)
+    → GREATEST < max state.moment state.next_tick → AddsBy state (ask.Change group) (found (group_name group) (Some table)) (denial denied.TimeSpent)
 adds_spent state group table serving there spent = record {
-  answer = Denied state.number TimeSpent;
+  answer = entry.Denied state.number denied.TimeSpent;
   answers = (refl, spent);
   takes = inl (record { name = group_name group; named = refl; table = table; behind = tt; entries_are = refl });
   replies = refl;
@@ -312,47 +312,47 @@ adds_spent state group table serving there spent = record {
 
 get_adds : (state : RunState) (name pk rk : List ℕ) (decided : StoreAnswer) (table : Option ℕ) → IsServing state → table_of state.past.world.names name ≡ table
     → OnTable table (λ number. Gets (held_in state) (record { table = number; pk = pk; rk = rk }) decided ⊎ Lacks decided) decided
-    → AddsBy state (Getting name pk rk) (found name table) decided
-get_adds state name pk rk decided None serving is none_is = adds_as state _ (found name None) decided _ none_is (adds_missing state (Getting name pk rk) name serving is (refl, refl))
+    → AddsBy state (ask.Get name pk rk) (found name table) decided
+get_adds state name pk rk decided None serving is none_is = adds_as state _ (found name None) decided _ none_is (adds_missing state (ask.Get name pk rk) name serving is (refl, refl))
 get_adds state name pk rk decided (Some table) serving is (inl gets) = adds_as state _ (found name (Some table)) decided _ gets (adds_found state name table pk rk _ serving is refl)
-get_adds state name pk rk decided (Some table) serving is (inr lacks) = adds_as state _ (found name (Some table)) decided _ lacks (adds_denied state (Getting name pk rk) name table serving is refl (refl, tt))
+get_adds state name pk rk decided (Some table) serving is (inr lacks) = adds_as state _ (found name (Some table)) decided _ lacks (adds_denied state (ask.Get name pk rk) name table serving is refl (refl, tt))
 
 page_adds : (state : RunState) (name : List ℕ) (options : Options) (decided : StoreAnswer) (table : Option ℕ) → IsServing state → table_of state.past.world.names name ≡ table
     → OnTable table (λ number. Pages (held_in state) number options decided ⊎ Lacks decided) decided
-    → AddsBy state (Paging name options) (found name table) decided
-page_adds state name options decided None serving is none_is = adds_as state _ (found name None) decided _ none_is (adds_missing state (Paging name options) name serving is (refl, refl))
+    → AddsBy state (ask.Page name options) (found name table) decided
+page_adds state name options decided None serving is none_is = adds_as state _ (found name None) decided _ none_is (adds_missing state (ask.Page name options) name serving is (refl, refl))
 page_adds state name options decided (Some table) serving is (inl pages) = adds_as state _ (found name (Some table)) decided _ pages (adds_page state name table options serving is)
-page_adds state name options decided (Some table) serving is (inr lacks) = adds_as state _ (found name (Some table)) decided _ lacks (adds_denied state (Paging name options) name table serving is refl (refl, tt))
+page_adds state name options decided (Some table) serving is (inr lacks) = adds_as state _ (found name (Some table)) decided _ lacks (adds_denied state (ask.Page name options) name table serving is refl (refl, tt))
 
 change_adds : (state : RunState) (group : List ItemView) (decided : StoreAnswer) (table : Option ℕ) → IsServing state → table_of state.past.world.names (group_name group) ≡ table
     → OnTable table
     (λ number. Makes (held_in state) state.moment number group decided
     ⊎ (IsRefusedGroup (held_in state) state.moment number group decided ⊎ (LacksMoment (held_in state) state.moment decided ⊎ Lacks decided))) decided
-    → AddsBy state (Writing group) (found (group_name group) table) decided
-change_adds state group decided None serving is none_is = adds_as state _ (found (group_name group) None) decided _ none_is (adds_missing state (Writing group) (group_name group) serving is (refl, refl))
+    → AddsBy state (ask.Change group) (found (group_name group) table) decided
+change_adds state group decided None serving is none_is = adds_as state _ (found (group_name group) None) decided _ none_is (adds_missing state (ask.Change group) (group_name group) serving is (refl, refl))
 change_adds state group decided (Some table) serving is (inl makes) =
     adds_as state _ (found (group_name group) (Some table)) decided _ makes.is (adds_changes state group table _ makes.made serving makes.is_group is refl makes.in_time makes.tick_is makes.outcome)
 change_adds state group decided (Some table) serving is (inr (inl refuses)) =
     adds_as state _ (found (group_name group) (Some table)) decided _ refuses.is (adds_refusal state group table refuses.refusal serving refuses.is_group is refuses.in_time refuses.outcome)
 change_adds state group decided (Some table) serving is (inr (inr (inl spends))) = adds_as state _ (found (group_name group) (Some table)) decided _ spends.is (adds_spent state group table serving is spends.spent)
 change_adds state group decided (Some table) serving is (inr (inr (inr lacks))) =
-    adds_as state _ (found (group_name group) (Some table)) decided _ lacks (adds_denied state (Writing group) (group_name group) table serving is refl (refl, tt))
+    adds_as state _ (found (group_name group) (Some table)) decided _ lacks (adds_denied state (ask.Change group) (group_name group) table serving is refl (refl, tt))
 
 -- every decided request adds what its reply says
 pub adds : (state : RunState) (what : Ask) (decided : StoreAnswer) → IsServing state → IsDecided (held_in state) state.moment what decided
     → Adds state what decided (entries_for state.number state.moment (held_in state) what decided.reply)
-adds state (Creating name) decided serving (inl creates) = adds_as state _ None decided _ creates.is (adds_created state name serving creates.absent creates.numbered)
-adds state (Creating name) decided serving (inr (inl finds)) = adds_as state _ None decided _ finds.is (adds_there state name serving finds.there)
-adds state (Creating name) decided serving (inr (inr (inl lacks))) = adds_as state _ None decided _ lacks.is (adds_numbers_spent state name serving lacks.absent lacks.spent)
-adds state (Creating name) decided serving (inr (inr (inr lacks))) = adds_as state _ None decided _ lacks (adds_alone state (Creating name) serving (refl, tt))
-adds state (Dropping name) decided serving (inl drops) = adds_as state _ None decided _ drops.is (adds_dropped state name serving drops.there)
-adds state (Dropping name) decided serving (inr (inl finds)) = adds_as state _ None decided _ finds.is (adds_none state name serving finds.absent)
-adds state (Dropping name) decided serving (inr (inr lacks)) = adds_as state _ None decided _ lacks (adds_alone state (Dropping name) serving (refl, tt))
-adds state (Listing after top) decided serving (inl names) = adds_names state after top decided serving names
-adds state (Listing after top) decided serving (inr lacks) = adds_as state _ None decided _ lacks (adds_alone state (Listing after top) serving (refl, tt))
-adds state (Getting name pk rk) decided serving comes = get_adds state name pk rk decided (table_of state.past.world.names name) serving refl comes
-adds state (Paging name options) decided serving comes = page_adds state name options decided (table_of state.past.world.names name) serving refl comes
-adds state (Writing group) decided serving comes = change_adds state group decided (table_of state.past.world.names (group_name group)) serving refl comes
+adds state (ask.Create name) decided serving (inl creates) = adds_as state _ None decided _ creates.is (adds_created state name serving creates.absent creates.numbered)
+adds state (ask.Create name) decided serving (inr (inl finds)) = adds_as state _ None decided _ finds.is (adds_there state name serving finds.there)
+adds state (ask.Create name) decided serving (inr (inr (inl lacks))) = adds_as state _ None decided _ lacks.is (adds_numbers_spent state name serving lacks.absent lacks.spent)
+adds state (ask.Create name) decided serving (inr (inr (inr lacks))) = adds_as state _ None decided _ lacks (adds_alone state (ask.Create name) serving (refl, tt))
+adds state (ask.Drop name) decided serving (inl drops) = adds_as state _ None decided _ drops.is (adds_dropped state name serving drops.there)
+adds state (ask.Drop name) decided serving (inr (inl finds)) = adds_as state _ None decided _ finds.is (adds_none state name serving finds.absent)
+adds state (ask.Drop name) decided serving (inr (inr lacks)) = adds_as state _ None decided _ lacks (adds_alone state (ask.Drop name) serving (refl, tt))
+adds state (ask.Tables after top) decided serving (inl names) = adds_names state after top decided serving names
+adds state (ask.Tables after top) decided serving (inr lacks) = adds_as state _ None decided _ lacks (adds_alone state (ask.Tables after top) serving (refl, tt))
+adds state (ask.Get name pk rk) decided serving comes = get_adds state name pk rk decided (table_of state.past.world.names name) serving refl comes
+adds state (ask.Page name options) decided serving comes = page_adds state name options decided (table_of state.past.world.names name) serving refl comes
+adds state (ask.Change group) decided serving comes = change_adds state group decided (table_of state.past.world.names (group_name group)) serving refl comes
 
 -- a decided request leaves a store that is served
 pub serving_after : (state : RunState) (event : Scheduled) (what : Ask) (decided : StoreAnswer) (entries : List Entry) → Adds state what decided entries → IsServing (state_after state event entries)

@@ -1,7 +1,7 @@
 -- Why the text of exchanges is a function of what they read and of the entries that they take.
 use Rattle.std.proofs.Common.{◌≡◌, ℕ, List, [], ◌∷◌, ◌++◌, length, refl, sym, ap, ◌∙◌, subst, arith, inl, inr, length-append, append_assoc, Some}
 use Rattle.tab_history.specs.declared.entries.Entry.{Entry}
-use Rattle.tab_history.specs.declared.entries.Entry.TheVariants.{Resolve}
+use Rattle.tab_history.specs.declared.entries.Entry.TheVariants as entry
 use Rattle.tab_history.specs.declared.asks.Reply.{Reply}
 use Rattle.tab_service.specs.declared.forms.Request.{Request}
 use Rattle.tab_service.specs.Replies.{reply_text}
@@ -31,7 +31,7 @@ first_is x y xs ys is = cc
 rest_is : {A : Type 0} (x y : A) (xs ys : List A) → x ∷ xs ≡ y ∷ ys → xs ≡ ys
 rest_is x y xs ys is = cc
 
-found_or_alone : (number : ℕ) (name : List ℕ) (table : ℕ) (answer : Entry) → StandsAlone answer → Resolve number name (Some table) ≡ answer → ⊥
+found_or_alone : (number : ℕ) (name : List ℕ) (table : ℕ) (answer : Entry) → StandsAlone answer → entry.Resolve number name (Some table) ≡ answer → ⊥
 found_or_alone number name table answer alone is = subst StandsAlone (sym is) alone
 
 looked_up : (look other_look answer other_answer : Entry) (entries others later more : List Entry) → entries ≡ look ∷ answer ∷ [] → others ≡ other_look ∷ other_answer ∷ [] → entries ++ later ≡ others ++ more
@@ -50,17 +50,17 @@ by_itself answer other_answer entries others later more is other_is same =
     let first = first_is answer other_answer later more all in
     (is ∙ ap (λ (a : Entry). a ∷ []) first ∙ sym other_is, first, rest_is answer other_answer later more all)
 
-apart : (number : ℕ) (name : List ℕ) (table : ℕ) (answer other_answer : Entry) (entries others later more : List Entry) → entries ≡ Resolve number name (Some table) ∷ answer ∷ [] → others ≡ other_answer ∷ []
+apart : (number : ℕ) (name : List ℕ) (table : ℕ) (answer other_answer : Entry) (entries others later more : List Entry) → entries ≡ entry.Resolve number name (Some table) ∷ answer ∷ [] → others ≡ other_answer ∷ []
     → StandsAlone other_answer → entries ++ later ≡ others ++ more → ⊥
 apart number name table answer other_answer entries others later more is other_is alone same =
-    let all : Resolve number name (Some table) ∷ answer ∷ later ≡ other_answer ∷ more = ap (λ (e : List Entry). e ++ later) (sym is) ∙ same ∙ ap (λ (e : List Entry). e ++ more) other_is in
-    found_or_alone number name table other_answer alone (first_is (Resolve number name (Some table)) other_answer (answer ∷ later) more all)
+    let all : entry.Resolve number name (Some table) ∷ answer ∷ later ≡ other_answer ∷ more = ap (λ (e : List Entry). e ++ later) (sym is) ∙ same ∙ ap (λ (e : List Entry). e ++ more) other_is in
+    found_or_alone number name table other_answer alone (first_is (entry.Resolve number name (Some table)) other_answer (answer ∷ later) more all)
 
 -- a request takes one front of a history: its first entry says which
 one_front : (state : RunState) (request : Request) (answer other_answer : Entry) (entries others later more : List Entry) → Takes state request.ask answer entries → Takes state request.ask other_answer others
     → entries ++ later ≡ others ++ more → SameAnswer entries others later more answer other_answer
 one_front state request answer other_answer entries others later more (inl took) (inl other_took) same =
-    looked_up (Resolve state.number took.name (Some took.table)) (Resolve state.number other_took.name (Some other_took.table)) answer other_answer entries others later more took.entries_are other_took.entries_are same
+    looked_up (entry.Resolve state.number took.name (Some took.table)) (entry.Resolve state.number other_took.name (Some other_took.table)) answer other_answer entries others later more took.entries_are other_took.entries_are same
 one_front state request answer other_answer entries others later more (inl took) (inr other_took) same =
     absurd (apart state.number took.name took.table answer other_answer entries others later more took.entries_are other_took.1 other_took.0 same)
 one_front state request answer other_answer entries others later more (inr took) (inl other_took) same =

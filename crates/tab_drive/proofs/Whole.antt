@@ -5,7 +5,7 @@ use Rattle.tab_http.specs.Messages.{Answer, Spells}
 use Rattle.tab_http.specs.Reading.{AnswersAll}
 use Rattle.tab_http.specs.declared.messages.Message.{Message}
 use Rattle.tab_http.specs.declared.refusals.HttpRefused.{HttpRefused}
-use Rattle.tab_http.specs.declared.refusals.HttpRefused.TheVariants.{EndBetween, EndInside, Malformed, HeadTooLong, NoLength, BodyTooLong, ReadFault, Memory}
+use Rattle.tab_http.specs.declared.refusals.HttpRefused.TheVariants as http
 use Rattle.tab_drive.specs.Messages.{alone, inside, AreRead}
 
 spelled_alone : (bytes given : List ℕ) (answer : Answer) → given ≡ bytes → Spells (given ++ []) answer → Spells bytes answer
@@ -26,22 +26,22 @@ refused_whole : (bytes given : List ℕ) (refused : HttpRefused) → given ≡ b
 refused_whole bytes given refused is spells = record { answer = Err refused; spells = spelled_alone bytes given (Err refused) is spells; found_is = refl }
 
 -- bytes that were refused, where no read can fail
-pub refused_alone : (bytes given behind : List ℕ) (refused : HttpRefused) → given ≡ bytes → (refused ≡ ReadFault → ⊥) → AnswersAll (Some []) [] given behind (Err refused)
-    → (inside refused ≡ Memory) ⊎ AreRead bytes (Err (inside refused))
-refused_alone bytes given behind EndBetween is sound answers = inr (refused_whole bytes given EndBetween is answers)
-refused_alone bytes given behind EndInside is sound answers = inr (refused_whole bytes given EndInside is answers)
-refused_alone bytes given behind Malformed is sound answers = inr (refused_whole bytes given Malformed is answers)
-refused_alone bytes given behind HeadTooLong is sound answers = inr (refused_whole bytes given HeadTooLong is answers)
-refused_alone bytes given behind NoLength is sound answers = inr (refused_whole bytes given NoLength is answers)
-refused_alone bytes given behind BodyTooLong is sound answers = inr (refused_whole bytes given BodyTooLong is answers)
-refused_alone bytes given behind ReadFault is sound answers = absurd (sound refl)
-refused_alone bytes given behind Memory is sound answers = inl refl
+pub refused_alone : (bytes given behind : List ℕ) (refused : HttpRefused) → given ≡ bytes → (refused ≡ http.ReadFault → ⊥) → AnswersAll (Some []) [] given behind (Err refused)
+    → (inside refused ≡ http.Memory) ⊎ AreRead bytes (Err (inside refused))
+refused_alone bytes given behind http.EndBetween is sound answers = inr (refused_whole bytes given http.EndBetween is answers)
+refused_alone bytes given behind http.EndInside is sound answers = inr (refused_whole bytes given http.EndInside is answers)
+refused_alone bytes given behind http.Malformed is sound answers = inr (refused_whole bytes given http.Malformed is answers)
+refused_alone bytes given behind http.HeadTooLong is sound answers = inr (refused_whole bytes given http.HeadTooLong is answers)
+refused_alone bytes given behind http.NoLength is sound answers = inr (refused_whole bytes given http.NoLength is answers)
+refused_alone bytes given behind http.BodyTooLong is sound answers = inr (refused_whole bytes given http.BodyTooLong is answers)
+refused_alone bytes given behind http.ReadFault is sound answers = absurd (sound refl)
+refused_alone bytes given behind http.Memory is sound answers = inl refl
 
 -- what a reading tells by its kind
 pub read_message : (bytes : List ℕ) (found : Result Message HttpRefused) → AreRead bytes found → IfOk found (λ message. AreRead bytes (Ok message))
 read_message bytes (Ok message) read = read
 read_message bytes (Err refused) read = tt
 
-pub read_refusal : (bytes : List ℕ) (found : Result Message HttpRefused) → AreRead bytes found → IfErr found (λ refused. (refused ≡ Memory) ⊎ AreRead bytes (Err refused))
+pub read_refusal : (bytes : List ℕ) (found : Result Message HttpRefused) → AreRead bytes found → IfErr found (λ refused. (refused ≡ http.Memory) ⊎ AreRead bytes (Err refused))
 read_refusal bytes (Ok message) read = tt
 read_refusal bytes (Err refused) read = inr read

@@ -2,7 +2,7 @@
 use Rattle.std.specs.Prelude.{◌≢◌, ℕ, ◌<◌, ◌≤◌, ◌^◌, List, [], ◌∷◌, ◌++◌, codes, decimal}
 use Rattle.tab_drive.specs.Schedule.{line_feed, longest_message}
 use Rattle.tab_drive.specs.declared.lines.ScheduleLine.{ScheduleLine}
-use Rattle.tab_drive.specs.declared.lines.ScheduleLine.TheVariants.{End, Now, Call}
+use Rattle.tab_drive.specs.declared.lines.ScheduleLine.TheVariants as lines
 
 -- the longest line that a schedule may have
 abbrev pub longest_line : ℕ
@@ -15,12 +15,12 @@ IsLine (byte ∷ bytes) = (byte ≢ line_feed) × IsLine bytes
 
 -- the bytes of a line
 abbrev pub line_text : ScheduleLine → List ℕ
-line_text End = codes "end"
-line_text (Now moment) = codes "now " ++ decimal moment
-line_text (Call size) = codes "call " ++ decimal size
+line_text lines.End = codes "end"
+line_text (lines.Now moment) = codes "now " ++ decimal moment
+line_text (lines.Call size) = codes "call " ++ decimal size
 
 -- the line's number is within its limit
 abbrev pub IsInRange : ScheduleLine → Type 0
-IsInRange End = Unit {0}
-IsInRange (Now moment) = moment < 2 ^ 64
-IsInRange (Call size) = size ≤ longest_message
+IsInRange lines.End = Unit {0}
+IsInRange (lines.Now moment) = moment < 2 ^ 64
+IsInRange (lines.Call size) = size ≤ longest_message

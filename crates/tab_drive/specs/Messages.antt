@@ -4,7 +4,7 @@ use Rattle.tab_auth.specs.declared.signatures.Keys.{Keys}
 use Rattle.tab_http.specs.Messages.{Answer, Spells}
 use Rattle.tab_http.specs.declared.messages.Message.{Message}
 use Rattle.tab_http.specs.declared.refusals.HttpRefused.{HttpRefused}
-use Rattle.tab_http.specs.declared.refusals.HttpRefused.TheVariants.{EndBetween, EndInside}
+use Rattle.tab_http.specs.declared.refusals.HttpRefused.TheVariants as http
 use Rattle.tab_service.specs.Decisions.{IsDecision}
 use Rattle.tab_service.specs.Refusals.{http_fault}
 use Rattle.tab_service.specs.declared.decisions.Decided.{Decided}
@@ -13,11 +13,11 @@ use Rattle.tab_service.specs.declared.decisions.Decided.TheVariants.{No}
 -- a message with nothing behind it
 abbrev pub alone : Message → List ℕ → Result Message HttpRefused
 alone message [] = Ok message
-alone message (b ∷ bytes) = Err EndInside
+alone message (b ∷ bytes) = Err http.EndInside
 
 -- where a message is due, an end before its first byte is one inside it
 abbrev pub inside : HttpRefused → HttpRefused
-inside EndBetween = EndInside
+inside http.EndBetween = http.EndInside
 inside refused = refused
 
 -- one whole message: bytes behind it, or none at all, are no message

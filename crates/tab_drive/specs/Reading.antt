@@ -3,13 +3,13 @@ use Rattle.std.specs.Prelude.{◌≡◌, ◌≢◌, ℕ, ◌+◌, ◌≤◌, Lis
 use Rattle.std.specs.Io.KnownBytes.{Consumes}
 use Rattle.tab_drive.specs.Lines.{IsLine, line_text, longest_line}
 use Rattle.tab_drive.specs.Schedule.{Fits, IsNoEvent, spelling, end_line, line_feed, longest_message}
-use Rattle.tab_drive.specs.declared.lines.ScheduleLine.TheVariants.{Call as CallLine}
+use Rattle.tab_drive.specs.declared.lines.ScheduleLine.TheVariants as lines
 use Rattle.tab_drive.specs.declared.reading.NextEvent.{NextEvent}
 use Rattle.tab_drive.specs.declared.reading.NextEvent.TheVariants.{Event, End}
 use Rattle.tab_drive.specs.declared.reading.Unread.{Unread}
 use Rattle.tab_drive.specs.declared.reading.Unread.TheVariants.{NoEvent, Fault, Memory}
 use Rattle.tab_outside.specs.declared.transfers.FillRefused.{FillRefused}
-use Rattle.tab_outside.specs.declared.transfers.FillRefused.TheVariants.{Ended, Failed, Memory as NoRoom}
+use Rattle.tab_outside.specs.declared.transfers.FillRefused.TheVariants as fill
 
 -- what was read was taken, in its one spelling
 abbrev pub ReadsNext : Option (List ℕ) → Option (List ℕ) → NextEvent → Type 0
@@ -24,7 +24,7 @@ IfTold left P = (bytes : List ℕ) → left ≡ Some bytes → P bytes
 pub data IsWithinOne (part : List ℕ) : Type 0 where
   in_line : IsLine part → length part ≤ longest_line + 1 → IsWithinOne part
   at_line_end : (line : List ℕ) → IsLine line → length line ≤ longest_line → part ≡ line ++ line_feed ∷ [] → IsWithinOne part
-  behind_call : (size : ℕ) (bytes : List ℕ) → size ≤ longest_message → length bytes ≤ size + 1 → part ≡ line_text (CallLine size) ++ line_feed ∷ bytes → IsWithinOne part
+  behind_call : (size : ℕ) (bytes : List ℕ) → size ≤ longest_message → length bytes ≤ size + 1 → part ≡ line_text (lines.Call size) ++ line_feed ∷ bytes → IsWithinOne part
 
 -- a part was taken that holds no whole event
 pub record TookPart (old new : Option (List ℕ)) : Type 0 where
@@ -69,6 +69,6 @@ pub record IsOpenMessage (size : ℕ) (bytes : List ℕ) : Type 0 where
 
 -- what a message that did not come whole is answered with
 abbrev pub unread_for : FillRefused → Unread
-unread_for Ended = NoEvent
-unread_for Failed = Fault
-unread_for NoRoom = Memory
+unread_for fill.Ended = NoEvent
+unread_for fill.Failed = Fault
+unread_for fill.Memory = Memory

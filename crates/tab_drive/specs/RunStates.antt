@@ -9,15 +9,15 @@ use Rattle.tab_ops.specs.declared.groups.OpRefused.{OpRefused}
 use Rattle.tab_history.specs.World.{World, table_of}
 use Rattle.tab_history.specs.Legality.{State, accepted, after_all}
 use Rattle.tab_history.specs.declared.entries.Entry.{Entry}
-use Rattle.tab_history.specs.declared.entries.Entry.TheVariants.{Bounds, Resolve, Get, Page, Change, Create, Drop, List as Listed, Denied}
-use Rattle.tab_history.specs.declared.entries.Denied.{Denied as Why}
-use Rattle.tab_history.specs.declared.entries.Denied.TheVariants.{NoTable, TableThere, NotFound, Op, TimeSpent, IdsSpent, Memory}
+use Rattle.tab_history.specs.declared.entries.Entry.TheVariants as entry
+use Rattle.tab_history.specs.declared.entries.Denied.{Denied}
+use Rattle.tab_history.specs.declared.entries.Denied.TheVariants as denied
 use Rattle.tab_history.specs.declared.entries.Doubt.{Doubt}
-use Rattle.tab_history.specs.declared.entries.Doubt.TheVariants.{Change as Changed, Create as Created, Drop as Dropped}
+use Rattle.tab_history.specs.declared.entries.Doubt.TheVariants as doubt
 use Rattle.tab_history.specs.declared.asks.Ask.{Ask}
-use Rattle.tab_history.specs.declared.asks.Ask.TheVariants.{Create as Creating, Drop as Dropping, Tables as Listing, Get as Getting, Page as Paging, Change as Writing}
+use Rattle.tab_history.specs.declared.asks.Ask.TheVariants as ask
 use Rattle.tab_history.specs.declared.asks.Reply.{Reply}
-use Rattle.tab_history.specs.declared.asks.Reply.TheVariants.{Found, Listed as PageGiven, Changed as Written, Made, Dropped as Gone, Tables, Denied as Refusal}
+use Rattle.tab_history.specs.declared.asks.Reply.TheVariants as reply
 use Rattle.tab_service.specs.declared.forms.Request.{Request}
 use Rattle.tab_service.specs.declared.decisions.Decided.TheVariants.{Go, No}
 use Rattle.tab_service.specs.Replies.{reply_text}
@@ -55,7 +55,7 @@ first_state = record { world = first_world; bounds = []; tables = []; doubts = [
 
 -- what an opening adds to the history: the bound of the one range
 abbrev pub opening : Entry
-opening = Bounds (At 0 [] ∷ [])
+opening = entry.Bounds (At 0 [] ∷ [])
 
 -- where a run begins: behind the opening
 unfoldable pub opened_state : ℕ → RunState
@@ -64,9 +64,9 @@ opened_state moment = record { moment = moment; number = 1; next_tick = 0; past 
 -- the least tick of the next change, after one entry and after several
 abbrev pub tick_after : ℕ → Option Doubt → ℕ
 tick_after next None = next
-tick_after next (Some (Changed table group tick)) = tick + 1
-tick_after next (Some (Created name table)) = next
-tick_after next (Some (Dropped name)) = next
+tick_after next (Some (doubt.Change table group tick)) = tick + 1
+tick_after next (Some (doubt.Create name table)) = next
+tick_after next (Some (doubt.Drop name)) = next
 
 abbrev pub next_tick_after : ℕ → List Entry → ℕ
 next_tick_after next [] = next
@@ -94,12 +94,12 @@ group_name (item ∷ items) = item.name
 
 -- the name of the table whose rows a request is about; none for a command on tables
 abbrev pub name_of : Ask → Option (List ℕ)
-name_of (Creating name) = None
-name_of (Dropping name) = None
-name_of (Listing after top) = None
-name_of (Getting name pk rk) = Some name
-name_of (Paging name options) = Some name
-name_of (Writing group) = Some (group_name group)
+name_of (ask.Create name) = None
+name_of (ask.Drop name) = None
+name_of (ask.Tables after top) = None
+name_of (ask.Get name pk rk) = Some name
+name_of (ask.Page name options) = Some name
+name_of (ask.Change group) = Some (group_name group)
 
 -- the last number of 64 bits, which no event and no table gets
 abbrev pub last_number : ℕ
@@ -117,77 +117,77 @@ HasNumber state None = ⊤
 
 -- no moment is left for the tick of the change that is asked for
 abbrev pub IsTimeSpent : RunState → Ask → Type 0
-IsTimeSpent state (Writing group) = GREATEST < max state.moment state.next_tick
+IsTimeSpent state (ask.Change group) = GREATEST < max state.moment state.next_tick
 IsTimeSpent state _ = ⊥
 
 -- no number is left for the table that is to be made, and none has its name
 abbrev pub AreNumbersSpent : RunState → Ask → Type 0
-AreNumbersSpent state (Creating name) = (table_of state.past.world.names name ≡ None) × (last_number ≤ state.past.world.next_table)
+AreNumbersSpent state (ask.Create name) = (table_of state.past.world.names name ≡ None) × (last_number ≤ state.past.world.next_table)
 AreNumbersSpent state _ = ⊥
 
 -- the reasons for which a request may be denied whatever the world is
-abbrev pub MayDeny : RunState → Ask → Why → Type 0
-MayDeny state what NoTable = ⊥
-MayDeny state what TableThere = ⊥
-MayDeny state what NotFound = ⊥
-MayDeny state what (Op refusal) = ⊥
-MayDeny state what TimeSpent = IsTimeSpent state what
-MayDeny state what IdsSpent = AreNumbersSpent state what
-MayDeny state what Memory = ⊤
+abbrev pub MayDeny : RunState → Ask → Denied → Type 0
+MayDeny state what denied.NoTable = ⊥
+MayDeny state what denied.TableThere = ⊥
+MayDeny state what denied.NotFound = ⊥
+MayDeny state what (denied.Op refusal) = ⊥
+MayDeny state what denied.TimeSpent = IsTimeSpent state what
+MayDeny state what denied.IdsSpent = AreNumbersSpent state what
+MayDeny state what denied.Memory = ⊤
 
 -- The entry answers the request, which has the number of the state. A request about the rows of a table that is not there is
 -- answered by its look-up. A change is answered only where a moment is left for its tick.
 abbrev pub IsAnswer : RunState → Ask → Entry → Type 0
-IsAnswer state (Creating name) (Create ask made table) = (ask ≡ state.number) × (made ≡ name) × HasNumber state table
-IsAnswer state (Dropping name) (Drop ask dropped stood) = (ask ≡ state.number) × (dropped ≡ name)
-IsAnswer state (Listing after top) (Listed ask from most names next) = (ask ≡ state.number) × (from ≡ after) × (most ≡ top)
-IsAnswer state (Getting name pk rk) (Get ask table p r found) = (ask ≡ state.number) × (p ≡ pk) × (r ≡ rk)
-IsAnswer state (Paging name options) (Page ask table asked page) = (ask ≡ state.number) × (asked ≡ options)
-IsAnswer state (Writing group) (Change ask now table acted result) =
+IsAnswer state (ask.Create name) (entry.Create ask made table) = (ask ≡ state.number) × (made ≡ name) × HasNumber state table
+IsAnswer state (ask.Drop name) (entry.Drop ask dropped stood) = (ask ≡ state.number) × (dropped ≡ name)
+IsAnswer state (ask.Tables after top) (entry.List ask from most names next) = (ask ≡ state.number) × (from ≡ after) × (most ≡ top)
+IsAnswer state (ask.Get name pk rk) (entry.Get ask table p r found) = (ask ≡ state.number) × (p ≡ pk) × (r ≡ rk)
+IsAnswer state (ask.Page name options) (entry.Page ask table asked page) = (ask ≡ state.number) × (asked ≡ options)
+IsAnswer state (ask.Change group) (entry.Change ask now table acted result) =
     (ask ≡ state.number) × (now ≡ state.moment) × (acted ≡ group) × (max state.moment state.next_tick ≤ GREATEST) × HasTick state result
-IsAnswer state what (Resolve ask name None) = (ask ≡ state.number) × (name_of what ≡ Some name)
-IsAnswer state what (Denied ask why) = (ask ≡ state.number) × MayDeny state what why
+IsAnswer state what (entry.Resolve ask name None) = (ask ≡ state.number) × (name_of what ≡ Some name)
+IsAnswer state what (entry.Denied ask why) = (ask ≡ state.number) × MayDeny state what why
 IsAnswer state what entry = ⊥
 
 -- the reply that an entry stands for
 abbrev pub reply_of : Entry → Option Reply
-reply_of (Bounds bounds) = None
-reply_of (Resolve ask name (Some table)) = None
-reply_of (Resolve ask name None) = Some (Refusal NoTable)
-reply_of (Get ask table pk rk (Some row)) = Some (Found row)
-reply_of (Get ask table pk rk None) = Some (Refusal NotFound)
-reply_of (Page ask table options page) = Some (PageGiven page)
-reply_of (Change ask now table group (Ok tick)) = Some (Written tick)
-reply_of (Change ask now table group (Err refusal)) = Some (Refusal (Op refusal))
-reply_of (Create ask name (Some table)) = Some (Made name)
-reply_of (Create ask name None) = Some (Refusal TableThere)
-reply_of (Drop ask name true) = Some Gone
-reply_of (Drop ask name false) = Some (Refusal NoTable)
-reply_of (Listed ask from top names next) = Some (Tables names next)
-reply_of (Denied ask why) = Some (Refusal why)
+reply_of (entry.Bounds bounds) = None
+reply_of (entry.Resolve ask name (Some table)) = None
+reply_of (entry.Resolve ask name None) = Some (reply.Denied denied.NoTable)
+reply_of (entry.Get ask table pk rk (Some row)) = Some (reply.Found row)
+reply_of (entry.Get ask table pk rk None) = Some (reply.Denied denied.NotFound)
+reply_of (entry.Page ask table options page) = Some (reply.Listed page)
+reply_of (entry.Change ask now table group (Ok tick)) = Some (reply.Changed tick)
+reply_of (entry.Change ask now table group (Err refusal)) = Some (reply.Denied (denied.Op refusal))
+reply_of (entry.Create ask name (Some table)) = Some (reply.Made name)
+reply_of (entry.Create ask name None) = Some (reply.Denied denied.TableThere)
+reply_of (entry.Drop ask name true) = Some reply.Dropped
+reply_of (entry.Drop ask name false) = Some (reply.Denied denied.NoTable)
+reply_of (entry.List ask from top names next) = Some (reply.Tables names next)
+reply_of (entry.Denied ask why) = Some (reply.Denied why)
 
 -- an answer with no look-up before it: to a command on tables, that a look-up found no table, or that no memory was found
 abbrev pub StandsAlone : Entry → Type 0
-StandsAlone (Bounds bounds) = ⊥
-StandsAlone (Resolve ask name (Some table)) = ⊥
-StandsAlone (Resolve ask name None) = ⊤
-StandsAlone (Get ask table pk rk found) = ⊥
-StandsAlone (Page ask table options page) = ⊥
-StandsAlone (Change ask now table group result) = ⊥
-StandsAlone (Create ask name table) = ⊤
-StandsAlone (Drop ask name stood) = ⊤
-StandsAlone (Listed ask from top names next) = ⊤
-StandsAlone (Denied ask IdsSpent) = ⊤
-StandsAlone (Denied ask Memory) = ⊤
-StandsAlone (Denied ask _) = ⊥
+StandsAlone (entry.Bounds bounds) = ⊥
+StandsAlone (entry.Resolve ask name (Some table)) = ⊥
+StandsAlone (entry.Resolve ask name None) = ⊤
+StandsAlone (entry.Get ask table pk rk found) = ⊥
+StandsAlone (entry.Page ask table options page) = ⊥
+StandsAlone (entry.Change ask now table group result) = ⊥
+StandsAlone (entry.Create ask name table) = ⊤
+StandsAlone (entry.Drop ask name stood) = ⊤
+StandsAlone (entry.List ask from top names next) = ⊤
+StandsAlone (entry.Denied ask denied.IdsSpent) = ⊤
+StandsAlone (entry.Denied ask denied.Memory) = ⊤
+StandsAlone (entry.Denied ask _) = ⊥
 
 -- an answer behind a look-up that found the table
 abbrev pub StandsBehind : Entry → Type 0
-StandsBehind (Get ask table pk rk found) = ⊤
-StandsBehind (Page ask table options page) = ⊤
-StandsBehind (Change ask now table group result) = ⊤
-StandsBehind (Denied ask TimeSpent) = ⊤
-StandsBehind (Denied ask Memory) = ⊤
+StandsBehind (entry.Get ask table pk rk found) = ⊤
+StandsBehind (entry.Page ask table options page) = ⊤
+StandsBehind (entry.Change ask now table group result) = ⊤
+StandsBehind (entry.Denied ask denied.TimeSpent) = ⊤
+StandsBehind (entry.Denied ask denied.Memory) = ⊤
 StandsBehind _ = ⊥
 
 -- a look-up that found the table, and the answer behind it
@@ -196,7 +196,7 @@ pub record LooksUp (state : RunState) (what : Ask) (answer : Entry) (entries : L
   pub named : name_of what ≡ Some name
   pub table : ℕ
   pub behind : StandsBehind answer
-  pub entries_are : entries ≡ Resolve state.number name (Some table) ∷ answer ∷ []
+  pub entries_are : entries ≡ entry.Resolve state.number name (Some table) ∷ answer ∷ []
 
 -- a request's entries: its look-up and its answer, or its answer alone
 abbrev pub Takes : RunState → Ask → Entry → List Entry → Type 0

@@ -7,12 +7,12 @@ use Rattle.tab_ops.specs.Groups.{ItemView}
 use Rattle.tab_history.specs.World.{Named, table_of, IsNextTick}
 use Rattle.tab_history.specs.Legality.{Legal}
 use Rattle.tab_history.specs.declared.entries.Entry.{Entry}
-use Rattle.tab_history.specs.declared.entries.Entry.TheVariants.{Resolve, Get, Page, Change, Create, Drop, List as Listed, Denied}
-use Rattle.tab_history.specs.declared.entries.Denied.TheVariants.{NoTable, TableThere, NotFound, Op, TimeSpent, IdsSpent, Memory}
+use Rattle.tab_history.specs.declared.entries.Entry.TheVariants as entry
+use Rattle.tab_history.specs.declared.entries.Denied.TheVariants as denied
 use Rattle.tab_history.specs.declared.asks.Ask.{Ask}
-use Rattle.tab_history.specs.declared.asks.Ask.TheVariants.{Create as Creating, Drop as Dropping, Tables as Listing, Get as Getting, Page as Paging, Change as Writing}
+use Rattle.tab_history.specs.declared.asks.Ask.TheVariants as ask
 use Rattle.tab_history.specs.declared.asks.Reply.{Reply}
-use Rattle.tab_history.specs.declared.asks.Reply.TheVariants.{Found, Listed as PageGiven, Changed as Written, Made, Dropped as Gone, Tables, Denied as Refusal}
+use Rattle.tab_history.specs.declared.asks.Reply.TheVariants as reply
 use Rattle.tab_service.specs.declared.forms.Request.{Request}
 use Rattle.tab_service.specs.Replies.{reply_text}
 use Rattle.tab_drive.specs.RunStates.{RunState, name_of, Happens, reply_outcome, state_after}
@@ -51,48 +51,48 @@ look_up names what = option_map (λ name. record { name = name; table = table_of
 
 -- the entry of a table's creation, with the number that is next
 abbrev pub create_entry : ℕ → ℕ → List ℕ → Reply → Entry
-create_entry number next_table name (Made spelled) = Create number name (Some next_table)
-create_entry number next_table name (Refusal TableThere) = Create number name None
-create_entry number next_table name (Refusal IdsSpent) = Denied number IdsSpent
-create_entry number next_table name _ = Denied number Memory
+create_entry number next_table name (reply.Made spelled) = entry.Create number name (Some next_table)
+create_entry number next_table name (reply.Denied denied.TableThere) = entry.Create number name None
+create_entry number next_table name (reply.Denied denied.IdsSpent) = entry.Denied number denied.IdsSpent
+create_entry number next_table name _ = entry.Denied number denied.Memory
 
 abbrev pub drop_entry : ℕ → List ℕ → Reply → Entry
-drop_entry number name Gone = Drop number name true
-drop_entry number name (Refusal NoTable) = Drop number name false
-drop_entry number name _ = Denied number Memory
+drop_entry number name reply.Dropped = entry.Drop number name true
+drop_entry number name (reply.Denied denied.NoTable) = entry.Drop number name false
+drop_entry number name _ = entry.Denied number denied.Memory
 
 abbrev pub list_entry : ℕ → Option (List ℕ) → ℕ → Reply → Entry
-list_entry number after top (Tables names next) = Listed number after top names next
-list_entry number after top _ = Denied number Memory
+list_entry number after top (reply.Tables names next) = entry.List number after top names next
+list_entry number after top _ = entry.Denied number denied.Memory
 
 abbrev pub get_entry : ℕ → ℕ → List ℕ → List ℕ → Reply → Entry
-get_entry number table pk rk (Found row) = Get number table pk rk (Some row)
-get_entry number table pk rk (Refusal NotFound) = Get number table pk rk None
-get_entry number table pk rk _ = Denied number Memory
+get_entry number table pk rk (reply.Found row) = entry.Get number table pk rk (Some row)
+get_entry number table pk rk (reply.Denied denied.NotFound) = entry.Get number table pk rk None
+get_entry number table pk rk _ = entry.Denied number denied.Memory
 
 abbrev pub page_entry : ℕ → ℕ → Options → Reply → Entry
-page_entry number table options (PageGiven page) = Page number table options page
-page_entry number table options _ = Denied number Memory
+page_entry number table options (reply.Listed page) = entry.Page number table options page
+page_entry number table options _ = entry.Denied number denied.Memory
 
 abbrev pub change_entry : ℕ → ℕ → ℕ → List ItemView → Reply → Entry
-change_entry number moment table group (Written tick) = Change number moment table group (Ok tick)
-change_entry number moment table group (Refusal (Op refusal)) = Change number moment table group (Err refusal)
-change_entry number moment table group (Refusal TimeSpent) = Denied number TimeSpent
-change_entry number moment table group _ = Denied number Memory
+change_entry number moment table group (reply.Changed tick) = entry.Change number moment table group (Ok tick)
+change_entry number moment table group (reply.Denied (denied.Op refusal)) = entry.Change number moment table group (Err refusal)
+change_entry number moment table group (reply.Denied denied.TimeSpent) = entry.Denied number denied.TimeSpent
+change_entry number moment table group _ = entry.Denied number denied.Memory
 
 -- the entry of the answer to a command on tables
 abbrev pub table_entry : ℕ → ℕ → Ask → Reply → Entry
-table_entry number next_table (Creating name) reply = create_entry number next_table name reply
-table_entry number next_table (Dropping name) reply = drop_entry number name reply
-table_entry number next_table (Listing after top) reply = list_entry number after top reply
-table_entry number next_table _ reply = Denied number Memory
+table_entry number next_table (ask.Create name) reply = create_entry number next_table name reply
+table_entry number next_table (ask.Drop name) reply = drop_entry number name reply
+table_entry number next_table (ask.Tables after top) reply = list_entry number after top reply
+table_entry number next_table _ reply = entry.Denied number denied.Memory
 
 -- the entry of the answer to a request about the rows of a table
 abbrev pub row_entry : ℕ → ℕ → ℕ → Ask → Reply → Entry
-row_entry number moment table (Getting name pk rk) reply = get_entry number table pk rk reply
-row_entry number moment table (Paging name options) reply = page_entry number table options reply
-row_entry number moment table (Writing group) reply = change_entry number moment table group reply
-row_entry number moment table _ reply = Denied number Memory
+row_entry number moment table (ask.Get name pk rk) reply = get_entry number table pk rk reply
+row_entry number moment table (ask.Page name options) reply = page_entry number table options reply
+row_entry number moment table (ask.Change group) reply = change_entry number moment table group reply
+row_entry number moment table _ reply = entry.Denied number denied.Memory
 
 -- the entry behind a look-up; none where it found no table
 abbrev pub behind_look_up : ℕ → ℕ → Option ℕ → Ask → Reply → List Entry
@@ -101,7 +101,7 @@ behind_look_up number moment (Some table) what reply = row_entry number moment t
 
 abbrev pub entries_by : Option LookUp → ℕ → ℕ → ℕ → Ask → Reply → List Entry
 entries_by None number moment next_table what reply = table_entry number next_table what reply ∷ []
-entries_by (Some look) number moment next_table what reply = Resolve number look.name look.table ∷ behind_look_up number moment look.table what reply
+entries_by (Some look) number moment next_table what reply = entry.Resolve number look.name look.table ∷ behind_look_up number moment look.table what reply
 
 -- the entries of a request over what the store held
 abbrev pub entries_for : ℕ → ℕ → Held → Ask → Reply → List Entry

@@ -12,14 +12,12 @@ use crate::messages::whole_message;
 use crate::outgoing::Outgoing;
 use crate::ranges::AllKeys;
 use crate::schedule::{RawMessage, Scheduled};
-use crate::stores::{StoreAnswer, Store};
+use crate::stores::{Store, StoreAnswer};
 use std::alloc::Global;
 use tab_auth::Keys;
 use tab_history::{Ask, Bounds, Denied, Entry, Reply};
 use tab_keys::Memory;
-use tab_service::{
-    Decided, ReplyBytes, Request, decide, http_fault, memory_reply, reply_bytes,
-};
+use tab_service::{Decided, ReplyBytes, Request, decide, http_fault, memory_reply, reply_bytes};
 
 /// A store in memory on its way through a schedule, with the history so far.
 #[derive(Drop)]
@@ -177,7 +175,7 @@ fn prepare(
             Ok((decided, Outgoing::Reply(ReplyBytes::new(bytes))))
         }
         Err(_) => Ok((
-            StoreAnswer::denied(Denied::Memory),
+            StoreAnswer::denial(Denied::Memory),
             Outgoing::Fixed(memory_reply()),
         )),
     }

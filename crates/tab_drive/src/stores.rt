@@ -1,5 +1,5 @@
 ghost use Rattle.std.specs.Prelude.{◌≡◌, ◌≤◌, ℕ, [], length, IfOk, OnErr, Some};
-ghost use Rattle.tab_drive.specs.Stores.{held_by, held_then, table_for, denied, answered, IsDecided, HasRoom, MayLack, found_or_not};
+ghost use Rattle.tab_drive.specs.Stores.{held_by, held_then, table_for, denial, answered, IsDecided, HasRoom, MayLack, found_or_not};
 ghost use Rattle.tab_ops.specs.Changes.{applied};
 ghost use Rattle.tab_page.specs.Pages.{page_below};
 ghost use Rattle.tab_rows.specs.Rows.{row_at};
@@ -82,15 +82,15 @@ impl Store {
             Ask::Tables { after, top } => self.decide_tables(alloc, after, *top),
             Ask::Get { pk, rk, .. } => match table {
                 Some(table) => self.decide_get(alloc, table, pk, rk),
-                None => Ok(StoreAnswer::denied(Denied::NoTable)),
+                None => Ok(StoreAnswer::denial(Denied::NoTable)),
             },
             Ask::Page { options, .. } => match table {
                 Some(table) => self.decide_page(alloc, table, options),
-                None => Ok(StoreAnswer::denied(Denied::NoTable)),
+                None => Ok(StoreAnswer::denial(Denied::NoTable)),
             },
             Ask::Change { group } => match table {
                 Some(table) => self.decide_change(alloc, table, group, moment),
-                None => Ok(StoreAnswer::denied(Denied::NoTable)),
+                None => Ok(StoreAnswer::denial(Denied::NoTable)),
             },
         }
     }
@@ -102,10 +102,10 @@ impl Store {
         ensures held { held_by self.new ≡ held_by self.old }
     {
         if self.tables.find(name).is_some() {
-            return Ok(StoreAnswer::denied(Denied::TableThere));
+            return Ok(StoreAnswer::denial(Denied::TableThere));
         }
         if self.next_table == u64::MAX {
-            return Ok(StoreAnswer::denied(Denied::IdsSpent));
+            return Ok(StoreAnswer::denial(Denied::IdsSpent));
         }
         self.tables.reserve_one()?;
         Ok(StoreAnswer {
@@ -120,7 +120,7 @@ impl Store {
         ensures room { IfOk result (λ decided. HasRoom self.now decided.effect) }
     {
         if self.tables.find(name).is_none() {
-            return Ok(StoreAnswer::denied(Denied::NoTable));
+            return Ok(StoreAnswer::denial(Denied::NoTable));
         }
         Ok(StoreAnswer {
             reply: Reply::Dropped,
@@ -159,12 +159,17 @@ impl Store {
         };
         match self.rows.get(&key) {
             Some(row) => Ok(StoreAnswer::answered(Reply::Found(row.try_copy(alloc)?))),
-            None => Ok(StoreAnswer::denied(Denied::NotFound)),
+            None => Ok(StoreAnswer::denial(Denied::NotFound)),
         }
     }
 
     /// The page that a query asks for.
-    fn decide_page(&self, alloc: Global, table: u64, options: &Options) -> Result<StoreAnswer, Memory>
+    fn decide_page(
+        &self,
+        alloc: Global,
+        table: u64,
+        options: &Options,
+    ) -> Result<StoreAnswer, Memory>
         ensures { IfOk result (λ decided. decided ≡ answered (Reply.Listed (page_below self.now.rows.rows table options.now End))) }
     {
         let page = whole_page(alloc, &self.rows, table, &self.all_keys, options)?;
@@ -185,7 +190,7 @@ impl Store {
     {
         let tick = moment.max(self.next_tick);
         if tick > GREATEST {
-            return Ok(StoreAnswer::denied(Denied::TimeSpent));
+            return Ok(StoreAnswer::denial(Denied::TimeSpent));
         }
         match plan(alloc, &self.rows, table, group, tick) {
             Ok(changes) => {
@@ -196,7 +201,7 @@ impl Store {
                 })
             }
             Err(OpRefused::Memory) => Err(Memory),
-            Err(why) => Ok(StoreAnswer::denied(Denied::Op(why))),
+            Err(why) => Ok(StoreAnswer::denial(Denied::Op(why))),
         }
     }
 
@@ -222,8 +227,8 @@ impl Store {
 
 impl StoreAnswer {
     /// A request that is denied.
-    pub fn denied(why: Denied) -> StoreAnswer
-        ensures { result ≡ denied why }
+    pub fn denial(why: Denied) -> StoreAnswer
+        ensures { result ≡ denial why }
     {
         StoreAnswer::answered(Reply::Denied(why))
     }

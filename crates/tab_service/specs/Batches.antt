@@ -2,16 +2,16 @@
 use Rattle.std.specs.Prelude.{◌≡◌, ℕ, ◌+◌, List, [], ◌∷◌, Bool, true, Option, Some, None, option_and_then, Result, Ok, Err, codes}
 use Rattle.tab_ops.specs.Groups.{ItemView, most_items, grouped}
 use Rattle.tab_ops.specs.declared.groups.GroupRefused.{GroupRefused}
-use Rattle.tab_ops.specs.declared.groups.GroupRefused.TheVariants.{Empty, TooMany, MixedPartitions, DoubledRow, Memory as NoMemoryForGroup}
+use Rattle.tab_ops.specs.declared.groups.GroupRefused.TheVariants as group
 use Rattle.tab_page.specs.declared.selects.Select.TheVariants.{All}
-use Rattle.tab_history.specs.declared.asks.Ask.TheVariants.{Change}
+use Rattle.tab_history.specs.declared.asks.Ask.TheVariants as ask
 use Rattle.tab_http.specs.Headers.{first_value}
 use Rattle.tab_http.specs.declared.messages.Header.{Header}
 use Rattle.tab_http.specs.declared.messages.Message.{Message}
 use Rattle.tab_batch.specs.Boundaries.{boundary_of}
 use Rattle.tab_batch.specs.Refusals.{Answer, IsBatchAnswer}
 use Rattle.tab_batch.specs.declared.refusals.BatchRefused.{BatchRefused}
-use Rattle.tab_batch.specs.declared.refusals.BatchRefused.TheVariants.{BadMultipart, BadPart, Memory as NoMemoryForParts}
+use Rattle.tab_batch.specs.declared.refusals.BatchRefused.TheVariants as batch
 use Rattle.tab_service.specs.TableQueries.{unless_refused}
 use Rattle.tab_service.specs.Requests.{table_name, row_keys, change_in_rows, change_of_row, resource_at}
 use Rattle.tab_service.specs.declared.batches.PartRefusal.{PartRefusal}
@@ -63,18 +63,18 @@ operations_from index account (message ∷ messages) = with_part index (part_of 
 -- The index of the part for which operations make no group: for too many, that of the first behind the most. An empty change
 -- set is refused as a whole.
 abbrev pub group_index : GroupRefused → Option ℕ
-group_index Empty = None
-group_index TooMany = Some most_items
-group_index (MixedPartitions index) = Some index
-group_index (DoubledRow index) = Some index
-group_index NoMemoryForGroup = None
+group_index group.Empty = None
+group_index group.TooMany = Some most_items
+group_index (group.MixedPartitions index) = Some index
+group_index (group.DoubledRow index) = Some index
+group_index group.Memory = None
 
 -- these parts, in their order
 abbrev pub batch_form : List ℕ → Bool → List PartForm → Form
 batch_form account minimal parts = record { account = account; batch = true; json = record { minimal = minimal; select = All }; parts = parts }
 
 abbrev pub request_for : List ℕ → Bool → List PartForm → Result (List ItemView) GroupRefused → Result Request PartRefusal
-request_for account minimal parts (Ok group) = Ok (record { ask = Change group; form = batch_form account minimal parts })
+request_for account minimal parts (Ok group) = Ok (record { ask = ask.Change group; form = batch_form account minimal parts })
 request_for account minimal parts (Err why) = Err (record { index = group_index why; why = Group why })
 
 abbrev pub grouped_request : List ℕ → Bool → Result Operations PartRefusal → Result Request PartRefusal
@@ -85,9 +85,9 @@ grouped_request account minimal (Err refused) = Err refused
 
 -- the index of the part that is no request
 abbrev pub multipart_index : BatchRefused → Option ℕ
-multipart_index (BadMultipart offset) = None
-multipart_index (BadPart index) = Some index
-multipart_index NoMemoryForParts = None
+multipart_index (batch.BadMultipart offset) = None
+multipart_index (batch.BadPart index) = Some index
+multipart_index batch.Memory = None
 
 -- the refusal of a batch whose requests are not read
 abbrev pub unread : BatchRefused → PartRefusal

@@ -2,7 +2,7 @@
 use Rattle.std.specs.Prelude.{◌≡◌, ℕ, List, [], ◌∷◌, Bool, true, false, ⊤}
 use Rattle.tab_ops.specs.Groups.{ItemView}
 use Rattle.tab_history.specs.declared.asks.Ask.{Ask}
-use Rattle.tab_history.specs.declared.asks.Ask.TheVariants.{Create, Drop as Dropping, Tables as Listing, Get, Page, Change}
+use Rattle.tab_history.specs.declared.asks.Ask.TheVariants as ask
 use Rattle.tab_json.specs.declared.entities.JsonForm.{JsonForm}
 use Rattle.tab_service.specs.Requests.{is_insert, is_delete}
 use Rattle.tab_service.specs.declared.forms.Form.{Form}
@@ -45,12 +45,12 @@ pub record IsUnsaid (part : PartForm) : Type 0 where
 
 -- the part is the only one of such an ask, whose change is of one row
 abbrev pub IsSolePart : Ask → PartForm → Type 0
-IsSolePart (Create name) part = IsPlain part
-IsSolePart (Dropping name) part = IsUnsaid part
-IsSolePart (Listing after top) part = IsUnsaid part
-IsSolePart (Get name pk rk) part = IsUnsaid part
-IsSolePart (Page name options) part = IsUnsaid part
-IsSolePart (Change group) part = ArePartsOf group (part ∷ [])
+IsSolePart (ask.Create name) part = IsPlain part
+IsSolePart (ask.Drop name) part = IsUnsaid part
+IsSolePart (ask.Tables after top) part = IsUnsaid part
+IsSolePart (ask.Get name pk rk) part = IsUnsaid part
+IsSolePart (ask.Page name options) part = IsUnsaid part
+IsSolePart (ask.Change group) part = ArePartsOf group (part ∷ [])
 
 -- the part is the only one, in the format of the request
 abbrev pub HasSolePart : Ask → JsonForm → List PartForm → Type 0
@@ -60,12 +60,12 @@ HasSolePart ask json (part ∷ other ∷ more) = ⊥
 
 -- the ask is for a change, and the parts are those of its operations
 abbrev pub HasPartsOfChange : Ask → List PartForm → Type 0
-HasPartsOfChange (Create name) parts = ⊥
-HasPartsOfChange (Dropping name) parts = ⊥
-HasPartsOfChange (Listing after top) parts = ⊥
-HasPartsOfChange (Get name pk rk) parts = ⊥
-HasPartsOfChange (Page name options) parts = ⊥
-HasPartsOfChange (Change group) parts = ArePartsOf group parts
+HasPartsOfChange (ask.Create name) parts = ⊥
+HasPartsOfChange (ask.Drop name) parts = ⊥
+HasPartsOfChange (ask.Tables after top) parts = ⊥
+HasPartsOfChange (ask.Get name pk rk) parts = ⊥
+HasPartsOfChange (ask.Page name options) parts = ⊥
+HasPartsOfChange (ask.Change group) parts = ArePartsOf group parts
 
 -- a batch is a change with a part for each operation, and every other request has one part
 abbrev pub HasParts : Bool → Ask → JsonForm → List PartForm → Type 0

@@ -5,19 +5,19 @@ use Rattle.tab_edm.specs.Moments.{text_of_etag}
 use Rattle.tab_edm.specs.declared.TheConstants.{GREATEST}
 use Rattle.tab_rows.specs.Rows.{RowView}
 use Rattle.tab_page.specs.Tokens.{token_text}
-use Rattle.tab_page.specs.declared.pages.Page.{Page as PageView}
-use Rattle.tab_page.specs.declared.selects.Select.TheVariants.{All as AllProperties}
+use Rattle.tab_page.specs.declared.pages.Page.{Page}
+use Rattle.tab_page.specs.declared.selects.Select.TheVariants as select
 use Rattle.tab_ops.specs.Groups.{ItemView}
-use Rattle.tab_ops.specs.declared.ops.Op.{Op as Operation}
+use Rattle.tab_ops.specs.declared.ops.Op.{Op}
 use Rattle.tab_ops.specs.declared.ops.Op.TheVariants.{Insert, Update, Replace, Merge, MergeIn, Delete}
 use Rattle.tab_ops.specs.declared.groups.OpRefused.{OpRefused}
-use Rattle.tab_ops.specs.declared.groups.OpRefused.TheVariants.{AlreadyThere, NotThere, Condition, TooMany, TooLarge, Memory as NoMemory}
-use Rattle.tab_history.specs.declared.entries.Denied.{Denied as Why}
-use Rattle.tab_history.specs.declared.entries.Denied.TheVariants.{NoTable, TableThere, NotFound, Op, TimeSpent, IdsSpent, Memory}
+use Rattle.tab_ops.specs.declared.groups.OpRefused.TheVariants as op
+use Rattle.tab_history.specs.declared.entries.Denied.{Denied}
+use Rattle.tab_history.specs.declared.entries.Denied.TheVariants as denied
 use Rattle.tab_history.specs.declared.asks.Ask.{Ask}
-use Rattle.tab_history.specs.declared.asks.Ask.TheVariants.{Create, Drop as Dropping, Tables as Listing, Get, Page, Change}
+use Rattle.tab_history.specs.declared.asks.Ask.TheVariants as ask
 use Rattle.tab_history.specs.declared.asks.Reply.{Reply}
-use Rattle.tab_history.specs.declared.asks.Reply.TheVariants.{Found, Listed, Changed, Made, Dropped, Tables, Denied}
+use Rattle.tab_history.specs.declared.asks.Reply.TheVariants as reply
 use Rattle.tab_json.specs.Entities.{VersionView, version_of, entity_json, page_json}
 use Rattle.tab_json.specs.Faults.{fault_json}
 use Rattle.tab_json.specs.Tables.{table_json, tables_json}
@@ -35,92 +35,92 @@ use Rattle.tab_service.specs.declared.forms.Request.{Request}
 -- ---- which replies may come
 
 abbrev pub IsCreate : Ask → Type 0
-IsCreate (Create name) = ⊤
-IsCreate (Dropping name) = ⊥
-IsCreate (Listing after top) = ⊥
-IsCreate (Get name pk rk) = ⊥
-IsCreate (Page name options) = ⊥
-IsCreate (Change group) = ⊥
+IsCreate (ask.Create name) = ⊤
+IsCreate (ask.Drop name) = ⊥
+IsCreate (ask.Tables after top) = ⊥
+IsCreate (ask.Get name pk rk) = ⊥
+IsCreate (ask.Page name options) = ⊥
+IsCreate (ask.Change group) = ⊥
 
 abbrev pub IsDrop : Ask → Type 0
-IsDrop (Create name) = ⊥
-IsDrop (Dropping name) = ⊤
-IsDrop (Listing after top) = ⊥
-IsDrop (Get name pk rk) = ⊥
-IsDrop (Page name options) = ⊥
-IsDrop (Change group) = ⊥
+IsDrop (ask.Create name) = ⊥
+IsDrop (ask.Drop name) = ⊤
+IsDrop (ask.Tables after top) = ⊥
+IsDrop (ask.Get name pk rk) = ⊥
+IsDrop (ask.Page name options) = ⊥
+IsDrop (ask.Change group) = ⊥
 
 abbrev pub IsListing : Ask → Type 0
-IsListing (Create name) = ⊥
-IsListing (Dropping name) = ⊥
-IsListing (Listing after top) = ⊤
-IsListing (Get name pk rk) = ⊥
-IsListing (Page name options) = ⊥
-IsListing (Change group) = ⊥
+IsListing (ask.Create name) = ⊥
+IsListing (ask.Drop name) = ⊥
+IsListing (ask.Tables after top) = ⊤
+IsListing (ask.Get name pk rk) = ⊥
+IsListing (ask.Page name options) = ⊥
+IsListing (ask.Change group) = ⊥
 
 abbrev pub IsGet : Ask → Type 0
-IsGet (Create name) = ⊥
-IsGet (Dropping name) = ⊥
-IsGet (Listing after top) = ⊥
-IsGet (Get name pk rk) = ⊤
-IsGet (Page name options) = ⊥
-IsGet (Change group) = ⊥
+IsGet (ask.Create name) = ⊥
+IsGet (ask.Drop name) = ⊥
+IsGet (ask.Tables after top) = ⊥
+IsGet (ask.Get name pk rk) = ⊤
+IsGet (ask.Page name options) = ⊥
+IsGet (ask.Change group) = ⊥
 
 abbrev pub IsPage : Ask → Type 0
-IsPage (Create name) = ⊥
-IsPage (Dropping name) = ⊥
-IsPage (Listing after top) = ⊥
-IsPage (Get name pk rk) = ⊥
-IsPage (Page name options) = ⊤
-IsPage (Change group) = ⊥
+IsPage (ask.Create name) = ⊥
+IsPage (ask.Drop name) = ⊥
+IsPage (ask.Tables after top) = ⊥
+IsPage (ask.Get name pk rk) = ⊥
+IsPage (ask.Page name options) = ⊤
+IsPage (ask.Change group) = ⊥
 
 abbrev pub IsChange : Ask → Type 0
-IsChange (Create name) = ⊥
-IsChange (Dropping name) = ⊥
-IsChange (Listing after top) = ⊥
-IsChange (Get name pk rk) = ⊥
-IsChange (Page name options) = ⊥
-IsChange (Change group) = ⊤
+IsChange (ask.Create name) = ⊥
+IsChange (ask.Drop name) = ⊥
+IsChange (ask.Tables after top) = ⊥
+IsChange (ask.Get name pk rk) = ⊥
+IsChange (ask.Page name options) = ⊥
+IsChange (ask.Change group) = ⊤
 
 -- the index is one of an operation of the change
 abbrev pub IsIndexIn : ℕ → Ask → Type 0
-IsIndexIn index (Create name) = ⊥
-IsIndexIn index (Dropping name) = ⊥
-IsIndexIn index (Listing after top) = ⊥
-IsIndexIn index (Get name pk rk) = ⊥
-IsIndexIn index (Page name options) = ⊥
-IsIndexIn index (Change group) = index < length group
+IsIndexIn index (ask.Create name) = ⊥
+IsIndexIn index (ask.Drop name) = ⊥
+IsIndexIn index (ask.Tables after top) = ⊥
+IsIndexIn index (ask.Get name pk rk) = ⊥
+IsIndexIn index (ask.Page name options) = ⊥
+IsIndexIn index (ask.Change group) = index < length group
 
 -- one of the change's operations is refused, and the kept tick is a moment
 abbrev pub SuitsRefusal : Ask → OpRefused → Type 0
-SuitsRefusal ask (AlreadyThere index) = IsIndexIn index ask
-SuitsRefusal ask (NotThere index) = IsIndexIn index ask
-SuitsRefusal ask (Condition index tick) = IsIndexIn index ask × (tick ≤ GREATEST)
-SuitsRefusal ask (TooMany index) = IsIndexIn index ask
-SuitsRefusal ask (TooLarge index) = IsIndexIn index ask
-SuitsRefusal ask NoMemory = IsChange ask
+SuitsRefusal ask (op.AlreadyThere index) = IsIndexIn index ask
+SuitsRefusal ask (op.NotThere index) = IsIndexIn index ask
+SuitsRefusal ask (op.Condition index tick) = IsIndexIn index ask × (tick ≤ GREATEST)
+SuitsRefusal ask (op.TooMany index) = IsIndexIn index ask
+SuitsRefusal ask (op.TooLarge index) = IsIndexIn index ask
+SuitsRefusal ask op.Memory = IsChange ask
 
 -- the reason is one for such an ask: a refused operation for a change alone, and for a batch neither a missing row nor a
 -- table that is there
-abbrev pub SuitsDenial : Bool → Ask → Why → Type 0
-SuitsDenial batch ask NoTable = ⊤
-SuitsDenial batch ask TableThere = batch ≡ false
-SuitsDenial batch ask NotFound = batch ≡ false
-SuitsDenial batch ask (Op refusal) = SuitsRefusal ask refusal
-SuitsDenial batch ask TimeSpent = ⊤
-SuitsDenial batch ask IdsSpent = ⊤
-SuitsDenial batch ask Memory = ⊤
+abbrev pub SuitsDenial : Bool → Ask → Denied → Type 0
+SuitsDenial batch ask denied.NoTable = ⊤
+SuitsDenial batch ask denied.TableThere = batch ≡ false
+SuitsDenial batch ask denied.NotFound = batch ≡ false
+SuitsDenial batch ask (denied.Op refusal) = SuitsRefusal ask refusal
+SuitsDenial batch ask denied.TimeSpent = ⊤
+SuitsDenial batch ask denied.IdsSpent = ⊤
+SuitsDenial batch ask denied.Memory = ⊤
 
 -- a reply to such an ask: a row for a key, a page for a page, a tick for a change, what was done to tables for the same
 -- kind of ask, and a denial for each
 abbrev pub SuitsAsk : Bool → Ask → Reply → Type 0
-SuitsAsk batch ask (Found row) = IsGet ask
-SuitsAsk batch ask (Listed page) = IsPage ask
-SuitsAsk batch ask (Changed tick) = IsChange ask × (tick ≤ GREATEST)
-SuitsAsk batch ask (Made name) = IsCreate ask
-SuitsAsk batch ask Dropped = IsDrop ask
-SuitsAsk batch ask (Tables names next) = IsListing ask
-SuitsAsk batch ask (Denied why) = SuitsDenial batch ask why
+SuitsAsk batch ask (reply.Found row) = IsGet ask
+SuitsAsk batch ask (reply.Listed page) = IsPage ask
+SuitsAsk batch ask (reply.Changed tick) = IsChange ask × (tick ≤ GREATEST)
+SuitsAsk batch ask (reply.Made name) = IsCreate ask
+SuitsAsk batch ask reply.Dropped = IsDrop ask
+SuitsAsk batch ask (reply.Tables names next) = IsListing ask
+SuitsAsk batch ask (reply.Denied why) = SuitsDenial batch ask why
 
 -- the request has a form for what it asks, and the reply is one to it
 pub record Suits (request : Request) (reply : Reply) : Type 0 where
@@ -187,22 +187,22 @@ index_in false index = None
 
 -- the reply to a refused operation
 unfoldable pub refused_reply : Bool → OpRefused → List ℕ
-refused_reply batch (AlreadyThere index) = error_text_at (index_in batch index) cause.entity_there
-refused_reply batch (NotThere index) = error_text_at (index_in batch index) cause.no_entity
-refused_reply batch (Condition index tick) = error_text_at (index_in batch index) (cause.other_version (text_of_etag tick))
-refused_reply batch (TooMany index) = error_text_at (index_in batch index) cause.too_many_properties
-refused_reply batch (TooLarge index) = error_text_at (index_in batch index) cause.entity_too_large
-refused_reply batch NoMemory = memory_fault
+refused_reply batch (op.AlreadyThere index) = error_text_at (index_in batch index) cause.entity_there
+refused_reply batch (op.NotThere index) = error_text_at (index_in batch index) cause.no_entity
+refused_reply batch (op.Condition index tick) = error_text_at (index_in batch index) (cause.other_version (text_of_etag tick))
+refused_reply batch (op.TooMany index) = error_text_at (index_in batch index) cause.too_many_properties
+refused_reply batch (op.TooLarge index) = error_text_at (index_in batch index) cause.entity_too_large
+refused_reply batch op.Memory = memory_fault
 
 -- the reply to a denied request; in a batch the first operation names its table
-unfoldable pub denied_reply : Bool → Why → List ℕ
-denied_reply batch NoTable = error_text_at (index_in batch 0) cause.no_table
-denied_reply batch TableThere = error_text cause.table_there
-denied_reply batch NotFound = error_text cause.no_entity
-denied_reply batch (Op refusal) = refused_reply batch refusal
-denied_reply batch TimeSpent = error_text cause.time_spent
-denied_reply batch IdsSpent = error_text cause.numbers_spent
-denied_reply batch Memory = memory_fault
+unfoldable pub denied_reply : Bool → Denied → List ℕ
+denied_reply batch denied.NoTable = error_text_at (index_in batch 0) cause.no_table
+denied_reply batch denied.TableThere = error_text cause.table_there
+denied_reply batch denied.NotFound = error_text cause.no_entity
+denied_reply batch (denied.Op refusal) = refused_reply batch refusal
+denied_reply batch denied.TimeSpent = error_text cause.time_spent
+denied_reply batch denied.IdsSpent = error_text cause.numbers_spent
+denied_reply batch denied.Memory = memory_fault
 
 -- the type of a body with minimal metadata, or with none
 abbrev pub json_type : Bool → List ℕ
@@ -221,7 +221,7 @@ continuation (Some next) =
     (codes "x-ms-continuation-NextPartitionKey", token_text next.0) ∷ (codes "x-ms-continuation-NextRowKey", token_text next.1) ∷ []
 
 -- the page of a table
-unfoldable pub page_reply : List ℕ → List ℕ → JsonForm → PageView → List ℕ
+unfoldable pub page_reply : List ℕ → List ℕ → JsonForm → Page → List ℕ
 page_reply account name form page =
     reply_with_body 200 (json_type form.minimal) (continuation page.next) (page_json account name form page.rows)
 
@@ -238,7 +238,7 @@ applied (Some preference) = (codes "Preference-Applied", preference) ∷ []
 -- the entity that was inserted
 unfoldable pub created_reply : List ℕ → Bool → List ℕ → VersionView → Option (List ℕ) → List ℕ
 created_reply account minimal name version preference =
-    let form : JsonForm = record { minimal = minimal; select = AllProperties } in
+    let form : JsonForm = record { minimal = minimal; select = select.All } in
     reply_with_body 201 (json_type minimal) (etag_header version.tick ∷ applied preference) (entity_json account name form version)
 
 -- a reply without a body
@@ -256,7 +256,7 @@ unfoldable pub written_reply : ℕ → List ℕ
 written_reply tick = bodiless_reply 204 (etag_header tick ∷ [])
 
 -- the reply to an operation that stands with this tick, in the form of its part
-abbrev pub operation_reply : List ℕ → PartForm → ItemView → Operation → ℕ → List ℕ
+abbrev pub operation_reply : List ℕ → PartForm → ItemView → Op → ℕ → List ℕ
 operation_reply account part item (Insert entity) tick =
     insert_reply account part.minimal part.prefer item.name (record { pk = item.pk; rk = item.rk; properties = entity.properties; tick = tick })
 operation_reply account part item (Update entity condition) tick = written_reply tick
@@ -316,37 +316,37 @@ tables_reply form names next =
 -- ---- the reply to an ask in this form; no bytes where it is none to such an ask
 
 abbrev pub found_reply : Form → Ask → RowView → List ℕ
-found_reply form (Create name) row = []
-found_reply form (Dropping name) row = []
-found_reply form (Listing after top) row = []
-found_reply form (Get name pk rk) row = row_reply form.account name form.json row
-found_reply form (Page name options) row = []
-found_reply form (Change group) row = []
+found_reply form (ask.Create name) row = []
+found_reply form (ask.Drop name) row = []
+found_reply form (ask.Tables after top) row = []
+found_reply form (ask.Get name pk rk) row = row_reply form.account name form.json row
+found_reply form (ask.Page name options) row = []
+found_reply form (ask.Change group) row = []
 
-abbrev pub listed_reply : Form → Ask → PageView → List ℕ
-listed_reply form (Create name) page = []
-listed_reply form (Dropping name) page = []
-listed_reply form (Listing after top) page = []
-listed_reply form (Get name pk rk) page = []
-listed_reply form (Page name options) page = page_reply form.account name form.json page
-listed_reply form (Change group) page = []
+abbrev pub listed_reply : Form → Ask → Page → List ℕ
+listed_reply form (ask.Create name) page = []
+listed_reply form (ask.Drop name) page = []
+listed_reply form (ask.Tables after top) page = []
+listed_reply form (ask.Get name pk rk) page = []
+listed_reply form (ask.Page name options) page = page_reply form.account name form.json page
+listed_reply form (ask.Change group) page = []
 
 abbrev pub changed_reply : Form → Ask → ℕ → List ℕ
-changed_reply form (Create name) tick = []
-changed_reply form (Dropping name) tick = []
-changed_reply form (Listing after top) tick = []
-changed_reply form (Get name pk rk) tick = []
-changed_reply form (Page name options) tick = []
-changed_reply form (Change group) tick = change_reply form group tick
+changed_reply form (ask.Create name) tick = []
+changed_reply form (ask.Drop name) tick = []
+changed_reply form (ask.Tables after top) tick = []
+changed_reply form (ask.Get name pk rk) tick = []
+changed_reply form (ask.Page name options) tick = []
+changed_reply form (ask.Change group) tick = change_reply form group tick
 
 abbrev pub reply_to_ask : Form → Ask → Reply → List ℕ
-reply_to_ask form ask (Found row) = found_reply form ask row
-reply_to_ask form ask (Listed page) = listed_reply form ask page
-reply_to_ask form ask (Changed tick) = changed_reply form ask tick
-reply_to_ask form ask (Made name) = made_reply form (sole_prefer form.parts) name
-reply_to_ask form ask Dropped = bodiless_reply 204 []
-reply_to_ask form ask (Tables names next) = tables_reply form names next
-reply_to_ask form ask (Denied why) = denied_reply form.batch why
+reply_to_ask form ask (reply.Found row) = found_reply form ask row
+reply_to_ask form ask (reply.Listed page) = listed_reply form ask page
+reply_to_ask form ask (reply.Changed tick) = changed_reply form ask tick
+reply_to_ask form ask (reply.Made name) = made_reply form (sole_prefer form.parts) name
+reply_to_ask form ask reply.Dropped = bodiless_reply 204 []
+reply_to_ask form ask (reply.Tables names next) = tables_reply form names next
+reply_to_ask form ask (reply.Denied why) = denied_reply form.batch why
 
 -- the bytes of the reply to a request
 unfoldable pub reply_text : Request → Reply → List ℕ

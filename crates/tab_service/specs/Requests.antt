@@ -7,20 +7,20 @@ use Rattle.tab_keys.specs.declared.key_texts.KeyRefused.{KeyRefused}
 use Rattle.tab_edm.specs.Entities.{EntityView, made}
 use Rattle.tab_edm.specs.declared.entities.EdmRefused.{EdmRefused}
 use Rattle.tab_page.specs.Queries.{read_options, read_select}
-use Rattle.tab_page.specs.declared.pages.Options.{Options as PageOptions}
+use Rattle.tab_page.specs.declared.pages.Options.{Options}
 use Rattle.tab_page.specs.declared.selects.Select.{Select}
 use Rattle.tab_page.specs.declared.selects.Select.TheVariants.{All}
 use Rattle.tab_ops.specs.Groups.{ItemView}
 use Rattle.tab_ops.specs.declared.ops.Match.{Match}
 use Rattle.tab_ops.specs.declared.ops.Op.{Op}
 use Rattle.tab_ops.specs.declared.ops.Op.TheVariants.{Insert, Update, Replace, Merge, MergeIn, Delete}
-use Rattle.tab_history.specs.declared.asks.Ask.TheVariants.{Create, Drop as Dropping, Tables as Listing, Get, Page, Change}
+use Rattle.tab_history.specs.declared.asks.Ask.TheVariants as ask
 use Rattle.tab_http.specs.declared.messages.Header.{Header}
 use Rattle.tab_http.specs.declared.messages.Message.{Message}
 use Rattle.tab_json.specs.Bodies.{entity_body, table_body}
 use Rattle.tab_json.specs.declared.bodies.BodyEntity.{BodyEntity}
 use Rattle.tab_json.specs.declared.bodies.JsonRefused.{JsonRefused}
-use Rattle.tab_json.specs.declared.bodies.JsonRefused.TheVariants.{NotJson, NotObject, ValueType, Key as BodyKey, Memory as NoMemoryForBody}
+use Rattle.tab_json.specs.declared.bodies.JsonRefused.TheVariants as json
 use Rattle.tab_service.specs.Conditions.{condition_for, needed_condition}
 use Rattle.tab_service.specs.Preferences.{format_for, format_with_body, preference_for}
 use Rattle.tab_service.specs.TableQueries.{unless_refused, option_unless, table_window}
@@ -50,13 +50,13 @@ abbrev pub plain_part : Bool → Prefer → PartForm
 plain_part minimal prefer = record { insert = false; delete = false; minimal = minimal; prefer = prefer }
 
 -- the request for a page
-abbrev pub page_request : List ℕ → Bool → List ℕ → PageOptions → Request
-page_request account minimal name options = record { ask = Page name options; form = form_of account options.select (plain_part minimal Unsaid) }
+abbrev pub page_request : List ℕ → Bool → List ℕ → Options → Request
+page_request account minimal name options = record { ask = ask.Page name options; form = form_of account options.select (plain_part minimal Unsaid) }
 
 -- the request for one row
 abbrev pub row_request : List ℕ → Bool → Select → List ℕ → List ℕ × List ℕ → Request
 row_request account minimal select name keys =
-    record { ask = Get name keys.0 keys.1; form = form_of account select (plain_part minimal Unsaid) }
+    record { ask = ask.Get name keys.0 keys.1; form = form_of account select (plain_part minimal Unsaid) }
 
 -- an operation that inserts
 abbrev pub is_insert : Op → Bool
@@ -85,7 +85,7 @@ change_operation minimal prefer name keys op =
 
 -- the request for one operation
 abbrev pub change_request : List ℕ → Operation → Request
-change_request account part = record { ask = Change (part.item ∷ []); form = form_of account All part.form }
+change_request account part = record { ask = ask.Change (part.item ∷ []); form = form_of account All part.form }
 
 abbrev pub single : List ℕ → Result Operation Refusal → Result Request Refusal
 single account (Ok part) = Ok (change_request account part)
@@ -93,15 +93,15 @@ single account (Err why) = Err why
 
 -- the request for a list of tables
 abbrev pub tables_request : List ℕ → Bool → TableWindow → Request
-tables_request account minimal window = record { ask = Listing window.after window.top; form = form_of account All (plain_part minimal Unsaid) }
+tables_request account minimal window = record { ask = ask.Tables window.after window.top; form = form_of account All (plain_part minimal Unsaid) }
 
 -- the request for a table to be made
 abbrev pub create_request : List ℕ → Bool → Prefer → List ℕ → Request
-create_request account minimal prefer name = record { ask = Create name; form = form_of account All (plain_part minimal prefer) }
+create_request account minimal prefer name = record { ask = ask.Create name; form = form_of account All (plain_part minimal prefer) }
 
 -- the request for a table to be dropped
 abbrev pub drop_request : List ℕ → Bool → List ℕ → Request
-drop_request account minimal name = record { ask = Dropping name; form = form_of account All (plain_part minimal Unsaid) }
+drop_request account minimal name = record { ask = ask.Drop name; form = form_of account All (plain_part minimal Unsaid) }
 
 -- ---- parts of requests
 
@@ -126,7 +126,7 @@ unfoldable pub row_keys : List ℕ → List ℕ → Result (List ℕ × List ℕ
 row_keys pk rk = unless_refused (path_key pk) (λ p. unless_refused (path_key rk) (λ r. Ok (p, r)))
 
 -- the options of a query
-unfoldable pub query_options : List ℕ → Result PageOptions Refusal
+unfoldable pub query_options : List ℕ → Result Options Refusal
 query_options query = option_unless (read_options query)
 
 -- the properties that a query asks for
@@ -143,11 +143,11 @@ read_body bytes = body_unless (entity_body bytes)
 
 -- why a body names no table
 abbrev pub name_fault : JsonRefused → Refusal
-name_fault NotJson = Body NotJson
-name_fault NotObject = Body NotObject
-name_fault (ValueType member) = NoTableName
-name_fault (BodyKey why) = Body (BodyKey why)
-name_fault NoMemoryForBody = Body NoMemoryForBody
+name_fault json.NotJson = Body json.NotJson
+name_fault json.NotObject = Body json.NotObject
+name_fault (json.ValueType member) = NoTableName
+name_fault (json.Key why) = Body (json.Key why)
+name_fault json.Memory = Body json.Memory
 
 abbrev pub named_in : Result (List ℕ) JsonRefused → Result (List ℕ) Refusal
 named_in (Ok text) = table_name text

@@ -6,7 +6,7 @@ use Rattle.tab_keys.specs.declared.table_names.NameRefused.{NameRefused}
 use Rattle.tab_page.specs.Queries.{values, single, top_of}
 use Rattle.tab_page.specs.Tokens.{read_token}
 use Rattle.tab_page.specs.declared.queries.OptionRefused.{OptionRefused}
-use Rattle.tab_page.specs.declared.queries.OptionRefused.TheVariants.{BadToken}
+use Rattle.tab_page.specs.declared.queries.OptionRefused.TheVariants as option
 use Rattle.tab_service.specs.declared.refusals.Refusal.{Refusal}
 use Rattle.tab_service.specs.declared.refusals.Refusal.TheVariants.{Options, FilterOfTables}
 use Rattle.tab_service.specs.declared.table_queries.TableWindow.{TableWindow}
@@ -30,11 +30,11 @@ count_of top = option_unless (top_of top)
 
 abbrev pub name_unless_refused : List ℕ → Option NameRefused → Result (Option (List ℕ)) Refusal
 name_unless_refused name None = Ok (Some name)
-name_unless_refused name (Some why) = Err (Options BadToken)
+name_unless_refused name (Some why) = Err (Options option.BadToken)
 
 -- a token of a table's name; one of another text is none
 abbrev pub name_unless_none : Option (List ℕ) → Result (Option (List ℕ)) Refusal
-name_unless_none None = Err (Options BadToken)
+name_unless_none None = Err (Options option.BadToken)
 name_unless_none (Some name) = name_unless_refused name (name_refusal name)
 
 -- the table that the list begins with

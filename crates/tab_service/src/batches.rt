@@ -153,7 +153,11 @@ fn operations_of(
 
 /// The operation that a part asks for.
 #[tactic(auto, unfolding(crate::specs::Batches::part_of))]
-fn part_of(alloc: Global, account: &str, message: &Message) -> Result<Result<Operation, Refusal>, Memory>
+fn part_of(
+    alloc: Global,
+    account: &str,
+    message: &Message,
+) -> Result<Result<Operation, Refusal>, Memory>
     ensures { IfOk result (λ part. part ≡ part_of account.now message.now) }
 {
     match resource_at(alloc, account, message)? {
