@@ -1,3 +1,4 @@
+//! The clock of the system, in ticks of 100 ns since 1601-01-01T00:00:00Z.
 ghost use Rattle.std.specs.Prelude.{◌≡◌, ◌+◌, ◌-◌, ◌^◌, ◌/◌, ◌<◌, min, IfOk};
 
 use std::time::{SystemTime, UNIX_EPOCH};

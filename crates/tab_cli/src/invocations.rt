@@ -1,3 +1,4 @@
+//! What the program is called with.
 ghost use Rattle.std.specs.Prelude.{◌≡◌, ◌≢◌, ℕ, ◌≤◌, List, IfSome, IsNone, String as TheString};
 ghost use Rattle.std.specs.declared.alloc.Global.{Global as TheGlobal};
 ghost use Rattle.tab_cli.specs.Invocations.{digit, IsInvocation};

@@ -1,3 +1,4 @@
+//! Standard input as a source.
 ghost use Rattle.std.specs.Prelude.{◌≡◌, ◌≤◌, None, IfOk};
 ghost use Rattle.tab_outside.specs.Sides.{nothing_beside};
 

@@ -2,13 +2,14 @@
 use Rattle.std.proofs.Common.{◌≡◌, ◌≢◌, ℕ, ◌≤◌, List, [], ◌∷◌, ◌++◌, length, Option, ap, refl, sym, subst, ◌∙◌, arith, append_assoc}
 use Rattle.std.specs.Io.KnownBytes.{Consumes}
 use Rattle.std.proofs.KnownBytes.{Consumes-trans}
-use Rattle.tab_drive.specs.Schedule.{Fits, IsNoEvent, end_line, line_feed, longest_message, spelling}
+use Rattle.tab_drive.specs.Schedule.{Fits, IsNoEvent, end_line, line_feed, spelling}
 use Rattle.tab_drive.specs.Lines.{IsInRange, line_text}
 use Rattle.tab_drive.specs.Reading.{HasNoMessage, IfTold, IsOpenLine, IsOpenMessage, ReadsLine, ReadsMessage, Took, TookPart}
 use Rattle.tab_drive.specs.Reading.IsWithinOne.{in_line, at_line_end, behind_call}
 use Rattle.tab_drive.specs.declared.lines.ScheduleLine.{ScheduleLine}
 use Rattle.tab_drive.specs.declared.lines.ScheduleLine.TheVariants as lines
 use Rattle.tab_drive.specs.declared.schedule.Scheduled.TheVariants.{Now, Call}
+use Rattle.tab_drive.specs.declared.lines.TheConstants.{LONGEST_MESSAGE}
 use Rattle.tab_drive.proofs.OpenLines.{no_line_inside}
 use Rattle.tab_drive.proofs.Spellings.{no_event_no_line, no_event_no_message, no_event_other_line}
 use Rattle.tab_drive.proofs.Told.{told_behind, told_front}
@@ -23,7 +24,7 @@ pub reads_now : (old new : Option (List ℕ)) (line : List ℕ) (moment : ℕ) �
 unfolding spelling
 reads_now old new line moment read is = subst (λ l. Consumes old new (l ++ line_feed ∷ [])) is read.consumed
 
-pub reads_call : (old mid new : Option (List ℕ)) (line message : List ℕ) (size : ℕ) → ReadsLine old mid line → line ≡ line_text (lines.Call size) → size ≤ longest_message
+pub reads_call : (old mid new : Option (List ℕ)) (line message : List ℕ) (size : ℕ) → ReadsLine old mid line → line ≡ line_text (lines.Call size) → size ≤ LONGEST_MESSAGE
     → ReadsMessage size mid new message → Fits (Call message) × Consumes old new (spelling (Call message))
 unfolding spelling
 reads_call old mid new line message size read is short came =
@@ -50,7 +51,7 @@ part_to_line_end old new line read other = record {
   consumed = read.consumed;
 }
 
-pub part_behind_call : (old mid new : Option (List ℕ)) (line : List ℕ) (size : ℕ) → ReadsLine old mid line → line ≡ line_text (lines.Call size) → size ≤ longest_message
+pub part_behind_call : (old mid new : Option (List ℕ)) (line : List ℕ) (size : ℕ) → ReadsLine old mid line → line ≡ line_text (lines.Call size) → size ≤ LONGEST_MESSAGE
     → Took (IsOpenMessage size) mid new → TookPart old new
 part_behind_call old mid new line size read is short took =
     let parts : (line ++ line_feed ∷ []) ++ took.bytes ≡ line_text (lines.Call size) ++ line_feed ∷ took.bytes =
@@ -66,7 +67,7 @@ pub refused_line : (old new : Option (List ℕ)) (line : List ℕ) → ReadsLine
 refused_line old new line read other =
     told_front old new (line ++ line_feed ∷ []) IsNoEvent read.consumed (λ rest. subst IsNoEvent (sym (append_assoc line (line_feed ∷ []) rest)) (no_event_other_line line rest read.is_line other))
 
-pub refused_call : (old mid : Option (List ℕ)) (line : List ℕ) (size : ℕ) → ReadsLine old mid line → line ≡ line_text (lines.Call size) → size ≤ longest_message
+pub refused_call : (old mid : Option (List ℕ)) (line : List ℕ) (size : ℕ) → ReadsLine old mid line → line ≡ line_text (lines.Call size) → size ≤ LONGEST_MESSAGE
     → IfTold mid (HasNoMessage size) → IfTold old IsNoEvent
 refused_call old mid line size read is short refused =
     told_behind old mid (line ++ line_feed ∷ []) IsNoEvent (HasNoMessage size) read.consumed refused

@@ -1,10 +1,12 @@
 -- How bytes are cut at the first line feed, and that a line's text says one thing.
 use Rattle.std.proofs.Common.{◌≡◌, ◌≢◌, ℕ, ◌^◌, ◌<◌, ◌≤◌, List, [], ◌∷◌, ◌++◌, length, length-append, get_or, drop, ap, refl, sym, ◌∙◌, arith, decimal, codes}
 use Rattle.std.proofs.lemmas.Fmt.{decimal_injective, length-decimal-le}
-use Rattle.tab_drive.specs.Schedule.{line_feed, longest_message}
-use Rattle.tab_drive.specs.Lines.{IsLine, IsInRange, line_text, longest_line}
+use Rattle.tab_drive.specs.Schedule.{line_feed}
+use Rattle.tab_drive.specs.Lines.{IsLine, IsInRange, line_text}
 use Rattle.tab_drive.specs.declared.lines.ScheduleLine.{ScheduleLine}
 use Rattle.tab_drive.specs.declared.lines.ScheduleLine.TheVariants as lines
+use Rattle.tab_drive.specs.declared.lines.TheConstants.{LONGEST_MESSAGE}
+use Rattle.tab_drive.specs.declared.reading.TheConstants.{LONGEST_LINE}
 use Rattle.tab_drive.proofs.Decimals.{IsLine-decimal}
 use Rattle.tab_drive.proofs.OpenLines.{IsLine-append}
 
@@ -45,7 +47,7 @@ IsLine-line_text (lines.Call size) range =
     IsLine-append (codes "call ") _ (λ is. omega arith, (λ is. omega arith, (λ is. omega arith, (λ is. omega arith, (λ is. omega arith, tt))))) (IsLine-decimal size (omega arith))
 
 -- and is short
-pub length-line_text : (line : ScheduleLine) → IsInRange line → length (line_text line) ≤ longest_line
+pub length-line_text : (line : ScheduleLine) → IsInRange line → length (line_text line) ≤ LONGEST_LINE
 length-line_text lines.End range = omega arith
 length-line_text (lines.Now moment) range = omega (arith, length-append (codes "now ") (decimal moment), length-decimal-le 20 moment (omega arith) (omega arith) range)
 length-line_text (lines.Call size) range = omega (arith, length-append (codes "call ") (decimal size), length-decimal-le 20 size (omega arith) (omega arith) (omega arith))
@@ -63,7 +65,7 @@ line_text_injective (lines.Call size) (lines.Now moment) a_range b_range is = ab
 line_text_injective (lines.Call size) (lines.Call other) a_range b_range is = ap lines.Call (decimal_injective size other (omega arith) (omega arith) (ap (drop 5) is))
 
 -- a line that calls for a longer message than may be says nothing
-pub call_too_long : (line digits : List ℕ) (size : ℕ) → line ≡ codes "call " ++ digits → digits ≡ decimal size → size < 2 ^ 64 → longest_message < size
+pub call_too_long : (line digits : List ℕ) (size : ℕ) → line ≡ codes "call " ++ digits → digits ≡ decimal size → size < 2 ^ 64 → LONGEST_MESSAGE < size
     → (parsed : ScheduleLine) → IsInRange parsed → line ≢ line_text parsed
 call_too_long line digits size parts spelled small long lines.End range is = heads_differ 99 101 _ _ (omega arith) (sym parts ∙ is)
 call_too_long line digits size parts spelled small long (lines.Now moment) range is = heads_differ 99 110 _ _ (omega arith) (sym parts ∙ is)

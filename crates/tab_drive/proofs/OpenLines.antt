@@ -3,8 +3,9 @@ use Rattle.std.proofs.Common.{◌≢◌, ℕ, ◌<◌, ◌≤◌, List, [], ◌�
 use Rattle.std.specs.Io.KnownBytes.{Consumes}
 use Rattle.std.proofs.KnownBytes.{Consumes-trans}
 use Rattle.tab_drive.specs.Schedule.{line_feed}
-use Rattle.tab_drive.specs.Lines.{IsLine, longest_line}
+use Rattle.tab_drive.specs.Lines.{IsLine}
 use Rattle.tab_drive.specs.Reading.{HasNoLine, IsOpenLine, Took}
+use Rattle.tab_drive.specs.declared.reading.TheConstants.{LONGEST_LINE}
 
 -- one more such byte
 pub IsLine-push : (bytes : List ℕ) (byte : ℕ) → IsLine bytes → byte ≢ line_feed → IsLine (bytes ++ byte ∷ [])
@@ -29,11 +30,11 @@ longer (b ∷ bytes) more [] rest no_feed less is = no_feed.0 (ap (λ (l : List 
 longer (b ∷ bytes) more (x ∷ line) rest no_feed less is = longer bytes more line rest no_feed.1 (omega arith) (ap (drop 1) is)
 
 -- nor behind them, where they are more than a line has
-pub no_line_behind : (bytes : List ℕ) → IsLine bytes → longest_line < length bytes → (more : List ℕ) → HasNoLine (bytes ++ more)
+pub no_line_behind : (bytes : List ℕ) → IsLine bytes → LONGEST_LINE < length bytes → (more : List ℕ) → HasNoLine (bytes ++ more)
 no_line_behind bytes no_feed long more line rest is_line short is = longer bytes more line rest no_feed (omega arith) is
 
 -- a line and one byte more, none of which ends it
-pub open_line : (old mid new : Option (List ℕ)) (line : List ℕ) (byte : ℕ) → Consumes old mid line → Consumes mid new (byte ∷ []) → IsLine line → byte ≢ line_feed → length line ≤ longest_line → Took IsOpenLine old new
+pub open_line : (old mid new : Option (List ℕ)) (line : List ℕ) (byte : ℕ) → Consumes old mid line → Consumes mid new (byte ∷ []) → IsLine line → byte ≢ line_feed → length line ≤ LONGEST_LINE → Took IsOpenLine old new
 open_line old mid new line byte front last is_line other short = record {
   bytes = line ++ byte ∷ [];
   are = record { is_line = IsLine-push line byte is_line other; bound = omega (arith, length-append line (byte ∷ [])) };

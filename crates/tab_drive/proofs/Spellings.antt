@@ -1,12 +1,13 @@
 -- An event's spelling is one line and what its line calls: so no spelling begins another.
 use Rattle.std.proofs.Common.{◌≡◌, ◌≢◌, ℕ, ◌<◌, ◌≤◌, List, [], ◌∷◌, ◌++◌, length, drop, ap, refl, sym, ◌∙◌, arith, append_assoc}
-use Rattle.tab_drive.specs.Schedule.{Fits, IsNoEvent, end_line, line_feed, longest_message, spelling}
+use Rattle.tab_drive.specs.Schedule.{Fits, IsNoEvent, end_line, line_feed, spelling}
 use Rattle.tab_drive.specs.Lines.{IsLine, IsInRange, line_text}
 use Rattle.tab_drive.specs.Reading.{HasNoLine, HasNoMessage}
 use Rattle.tab_drive.specs.declared.lines.ScheduleLine.{ScheduleLine}
 use Rattle.tab_drive.specs.declared.lines.ScheduleLine.TheVariants as lines
 use Rattle.tab_drive.specs.declared.schedule.Scheduled.{Scheduled}
 use Rattle.tab_drive.specs.declared.schedule.Scheduled.TheVariants.{Now, Call}
+use Rattle.tab_drive.specs.declared.lines.TheConstants.{LONGEST_MESSAGE}
 use Rattle.tab_drive.proofs.LineTexts.{IsLine-line_text, length-line_text, line_text_injective, split_length, split_line}
 
 -- what the event's line says
@@ -58,7 +59,7 @@ no_event_other_line line rest is_line other = record {
 }
 
 -- none where the line calls a message that does not follow
-pub no_event_no_message : (size : ℕ) (bytes : List ℕ) → size ≤ longest_message → HasNoMessage size bytes → IsNoEvent (line_text (lines.Call size) ++ line_feed ∷ bytes)
+pub no_event_no_message : (size : ℕ) (bytes : List ℕ) → size ≤ LONGEST_MESSAGE → HasNoMessage size bytes → IsNoEvent (line_text (lines.Call size) ++ line_feed ∷ bytes)
 no_event_no_message size bytes short no_message = record {
   no_event = uncalled;
   no_end = λ rest is. let parts = split_line (line_text (lines.Call size)) (line_text lines.End) bytes rest (IsLine-line_text (lines.Call size) short) (IsLine-line_text lines.End tt) (is ∙ ended rest) in

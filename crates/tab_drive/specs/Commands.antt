@@ -1,21 +1,25 @@
 -- The words of a run, and how a run ends.
-use Rattle.std.specs.Prelude.{◌≡◌, ℕ, ◌+◌, ◌⊎◌, List, [], ◌∷◌, length, Bool, true, false, ◌&&◌, ◌||◌, nat_lt, nat_le, if◌then◌else◌, codes, bytes_eq, Option, Some, None, option_map}
+use Rattle.std.specs.Prelude.{◌≡◌, ℕ, ◌+◌, ◌⊎◌, List, [], ◌∷◌, length, Bool, true, false, ◌||◌, nat_lt, if◌then◌else◌, codes, bytes_eq, Option, Some, None, option_map}
+use Rattle.std.specs.Char.{is_ascii_lowercase, is_ascii_digit}
 use Rattle.std.specs.List.{list_all}
 use Rattle.base64.specs.Engines.{standard}
 use Rattle.base64.specs.GeneralPurpose.{decoded_of}
 use Rattle.tab_auth.specs.declared.signatures.Keys.{Keys}
 use Rattle.tab_history.specs.declared.entries.Entry.{Entry}
 use Rattle.tab_drive.specs.Runs.{Traffic, Stops, TookLine, refused_line, read_fault_line, memory_line}
+use Rattle.tab_drive.specs.declared.runs.TheConstants.{SHORTEST_ACCOUNT, LONGEST_ACCOUNT}
 use Rattle.tab_drive.specs.declared.serving.RunStop.{RunStop}
 use Rattle.tab_drive.specs.declared.serving.RunStop.TheVariants.{End, Refused, ReadFault, WriteFault, Memory}
 
 -- a lower-case ASCII letter or a digit
 abbrev pub is_account_byte : ℕ → Bool
-is_account_byte b = (nat_le 97 b && nat_le b 122) || (nat_le 48 b && nat_le b 57)
+is_account_byte b = is_ascii_lowercase b || is_ascii_digit b
 
--- 3 to 24 lower-case ASCII letters and digits
+-- lower-case ASCII letters and digits, as few and as many as the limits say
 unfoldable pub is_account : List ℕ → Bool
-is_account name = if nat_lt (length name) 3 then false else (if nat_lt 24 (length name) then false else list_all is_account_byte name)
+is_account name =
+    if nat_lt (length name) SHORTEST_ACCOUNT then false
+    else (if nat_lt LONGEST_ACCOUNT (length name) then false else list_all is_account_byte name)
 
 -- a word says which key an account has: `-` that it is open, and otherwise the key in standard Base64 (RFC 4648, section 4)
 abbrev pub key_of : List ℕ → Option (Option (List ℕ))

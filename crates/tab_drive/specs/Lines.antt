@@ -1,12 +1,9 @@
 -- The lines of a schedule, without the line feed that ends each.
 use Rattle.std.specs.Prelude.{◌≢◌, ℕ, ◌<◌, ◌≤◌, ◌^◌, List, [], ◌∷◌, ◌++◌, codes, decimal}
-use Rattle.tab_drive.specs.Schedule.{line_feed, longest_message}
+use Rattle.tab_drive.specs.Schedule.{line_feed}
 use Rattle.tab_drive.specs.declared.lines.ScheduleLine.{ScheduleLine}
 use Rattle.tab_drive.specs.declared.lines.ScheduleLine.TheVariants as lines
-
--- the longest line that a schedule may have
-abbrev pub longest_line : ℕ
-longest_line = 16384
+use Rattle.tab_drive.specs.declared.lines.TheConstants.{LONGEST_MESSAGE}
 
 -- no byte is a line feed
 abbrev pub IsLine : List ℕ → Type 0
@@ -23,4 +20,4 @@ line_text (lines.Call size) = codes "call " ++ decimal size
 abbrev pub IsInRange : ScheduleLine → Type 0
 IsInRange lines.End = Unit {0}
 IsInRange (lines.Now moment) = moment < 2 ^ 64
-IsInRange (lines.Call size) = size ≤ longest_message
+IsInRange (lines.Call size) = size ≤ LONGEST_MESSAGE

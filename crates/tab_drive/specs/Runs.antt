@@ -22,6 +22,10 @@ pub record Traffic : Type 0 where
   pub taken_before : Option (List ℕ)
   pub taken : Option (List ℕ)
 
+-- the same of these four
+abbrev pub traffic : Option (List ℕ) → Option (List ℕ) → Option (List ℕ) → Option (List ℕ) → Traffic
+traffic left_before left taken_before taken = record { left_before = left_before; left = left; taken_before = taken_before; taken = taken }
+
 -- ---- one event
 
 -- the exchange happened in this state

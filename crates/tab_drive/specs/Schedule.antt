@@ -2,14 +2,11 @@
 use Rattle.std.specs.Prelude.{◌≡◌, ℕ, ◌<◌, ◌≤◌, ◌^◌, List, [], ◌∷◌, ◌++◌, length, codes, decimal}
 use Rattle.tab_drive.specs.declared.schedule.Scheduled.{Scheduled}
 use Rattle.tab_drive.specs.declared.schedule.Scheduled.TheVariants.{Now, Call}
+use Rattle.tab_drive.specs.declared.lines.TheConstants.{LONGEST_MESSAGE}
 
 -- the byte that ends a line
 abbrev pub line_feed : ℕ
 line_feed = 10
-
--- the longest message that a schedule may have
-abbrev pub longest_message : ℕ
-longest_message = 4227072
 
 -- the bytes of an event
 unfoldable pub spelling : Scheduled → List ℕ
@@ -19,7 +16,7 @@ spelling (Call message) = codes "call " ++ decimal (length message) ++ line_feed
 -- the event's numbers are within their limits
 abbrev pub Fits : Scheduled → Type 0
 Fits (Now moment) = moment < 2 ^ 64
-Fits (Call message) = length message ≤ longest_message
+Fits (Call message) = length message ≤ LONGEST_MESSAGE
 
 -- the line that ends a schedule
 unfoldable pub end_line : List ℕ

@@ -1,3 +1,4 @@
+//! The entries of a history that a decided request takes, from what it asks and the reply to it.
 ghost use Rattle.std.specs.Prelude.{◌≡◌};
 ghost use Rattle.tab_drive.specs.Sessions.{create_entry, drop_entry, list_entry, get_entry, page_entry, change_entry, table_entry, row_entry};
 

@@ -1,3 +1,4 @@
+//! Laws over definitions, each on a function with an empty body.
 ghost use Rattle.std.specs.Prelude.{◌≡◌, ℕ, List, ◌++◌, length};
 ghost use Rattle.tab_auth.specs.declared.signatures.Keys.{Keys};
 ghost use Rattle.tab_history.specs.declared.entries.Entry.{Entry};

@@ -1,3 +1,4 @@
+//! The lines of a schedule.
 ghost use Rattle.std.specs.Prelude.{◌≡◌, ◌≢◌, ℕ, ◌<◌, ◌^◌, decimal, IfSome, IsNone};
 ghost use Rattle.tab_drive.specs.declared.lines.ScheduleLine.{ScheduleLine as TheLine};
 ghost use Rattle.tab_drive.specs.Lines.{line_text, IsInRange};
@@ -5,7 +6,7 @@ ghost use Rattle.tab_drive.specs.Lines.{line_text, IsInRange};
 use std::str;
 
 /// The longest message that a schedule may have, in bytes.
-const LONGEST_MESSAGE: u64 = 4_227_072;
+pub const LONGEST_MESSAGE: u64 = 4_227_072;
 
 /// What one line of a schedule says.
 #[derive(Clone, Copy, Debug)]

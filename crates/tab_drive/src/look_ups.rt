@@ -1,3 +1,4 @@
+//! The look-up of the table whose rows a request is about.
 ghost use Rattle.std.specs.Prelude.{◌≡◌, ◌<◌, length, IfOk, option_map, option_and_then};
 ghost use Rattle.std.specs.Option.{option_copied};
 ghost use Rattle.tab_drive.specs.RunStates.{name_of};

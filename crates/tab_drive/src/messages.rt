@@ -1,3 +1,4 @@
+//! The bytes of a call as one whole message of HTTP/1.1 (RFC 9112), with nothing behind it.
 ghost use Rattle.std.specs.Prelude.{◌≡◌, ◌⊎◌, [], Ok, Err, Some, IfOk, IfErr};
 ghost use Rattle.tab_drive.specs.Messages.{alone, inside, AreRead};
 ghost use Rattle.tab_outside.specs.Sides.{nothing_beside};

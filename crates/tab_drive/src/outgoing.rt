@@ -1,3 +1,4 @@
+//! What an event gives to be written, and its writing.
 ghost use Rattle.std.specs.Prelude.{◌≡◌, vec_items, flat_map};
 ghost use Rattle.tab_outside.specs.Faults.{HasCause};
 ghost use Rattle.tab_drive.specs.Outgoing.{Wrote, outgoing_text};

@@ -1,3 +1,4 @@
+//! The one range of a store in memory, of all keys, and its pages.
 ghost use Rattle.std.specs.Prelude.{◌≡◌, ◌<◌, [], IfOk};
 ghost use Rattle.tab_keys.specs.declared.bounds.Bound.TheVariants.{End};
 ghost use Rattle.tab_page.specs.Pages.{page_below};

@@ -1,3 +1,4 @@
+//! The next event of a schedule, read from a source byte by byte up to its end.
 ghost use Rattle.std.specs.Prelude.{◌≡◌, ◌≤◌, IfOk, OnErr, IsErrOf};
 ghost use Rattle.tab_drive.specs.Reading.{ReadsNext, TookPart, IfTold, Took, ReadsLine, HasNoLine, IsOpenLine, ReadsMessage, HasNoMessage, IsOpenMessage, unread_for};
 ghost use Rattle.tab_drive.specs.Schedule.{IsNoEvent};
@@ -13,7 +14,7 @@ use tab_outside::{Failed, FillRefused, Source, fill, read_byte};
 mod tests;
 
 /// The longest line that a schedule may have, in bytes without its line feed.
-const LONGEST_LINE: usize = 16_384;
+pub const LONGEST_LINE: usize = 16_384;
 
 /// What stands next in a schedule.
 #[derive(Debug, Drop)]

@@ -1,3 +1,4 @@
+//! The top call: one command over a source, a sink and a clock. A key is standard Base64 (RFC 4648, section 4).
 ghost use Rattle.std.specs.Prelude.{◌≡◌, ◌≢◌, ◌⊎◌, ◌<◌, ◌-◌, ◌^◌, ℕ, List, [], ◌≤◌, map, flat_map, string_bytes, Contains, MatchOption, IfOk, Some, None};
 ghost use Rattle.std.specs.List.{list_all};
 ghost use Rattle.base64.specs.Engines.{standard};
@@ -9,7 +10,7 @@ ghost use Rattle.tab_history.specs.Followed.{FollowedWell, FollowedStill};
 ghost use Rattle.tab_history.specs.Ticks.{TicksRise, TicksTellRows};
 ghost use Rattle.tab_history.specs.Numbers.{NumbersRise, MadeNew, DropsHide};
 ghost use Rattle.tab_drive.specs.RunStates.{first_state};
-ghost use Rattle.tab_drive.specs.Runs.{TookLine, usage_line, memory_line};
+ghost use Rattle.tab_drive.specs.Runs.{traffic, TookLine, usage_line, memory_line};
 ghost use Rattle.tab_drive.specs.Commands.{IsDrive, IsNoCommand, IsNamed, is_account, is_account_byte, key_of, status_of, line_of, Drives, SaidOnly, exit_statuses};
 ghost use Rattle.tab_drive.specs.Completeness.{IsServable};
 
@@ -66,7 +67,7 @@ pub fn run<S: Source, K: Sink, D: Disk, C: Clock>(
 
     // The schedule was read, its history made and its replies written, up to what stopped it.
     ensures drives { (keys : Keys) → IsDrive (map string_bytes words.now) keys → Drives keys (C.moment clock.new)
-        (record { left_before = S.left input.old; left = S.left input.new; taken_before = K.taken output.old; taken = K.taken output.new })
+        (traffic (S.left input.old) (S.left input.new) (K.taken output.old) (K.taken output.new))
         (K.faults output.old) (K.faults output.new) result.status result.history result.done }
 
     // No other status comes.
@@ -80,10 +81,10 @@ pub fn run<S: Source, K: Sink, D: Disk, C: Clock>(
     // Other words are refused, if memory is found to read a key, and nothing is read.
     ensures words { result.status ≡ 1 → IsNoCommand (map string_bytes words.now) }
     ensures refused { IsNoCommand (map string_bytes words.now) → (result.status ≡ 1) ⊎ ((result.status ≡ 7) × SaidOnly
-        (record { left_before = S.left input.old; left = S.left input.new; taken_before = K.taken output.old; taken = K.taken output.new })
+        (traffic (S.left input.old) (S.left input.new) (K.taken output.old) (K.taken output.new))
         (K.faults output.old) (K.faults output.new) memory_line result.history result.done) }
     ensures usage { result.status ≡ 1 → SaidOnly
-        (record { left_before = S.left input.old; left = S.left input.new; taken_before = K.taken output.old; taken = K.taken output.new })
+        (traffic (S.left input.old) (S.left input.new) (K.taken output.old) (K.taken output.new))
         (K.faults output.old) (K.faults output.new) usage_line result.history result.done }
     ensures read_fault { result.status ≡ 3 → Rose (S.faults input.old) (S.faults input.new) }
     ensures write_fault { result.status ≡ 4 → Rose (K.faults output.old) (K.faults output.new) }
@@ -106,7 +107,7 @@ fn drive<S: Source, K: Sink>(
 ) -> Ended
     ensures legal { Legal first_state result.history }
     ensures drives { Drives keys.now moment
-        (record { left_before = S.left input.old; left = S.left input.new; taken_before = K.taken output.old; taken = K.taken output.new })
+        (traffic (S.left input.old) (S.left input.new) (K.taken output.old) (K.taken output.new))
         (K.faults output.old) (K.faults output.new) result.status result.history result.done }
     ensures status { Contains exit_statuses result.status }
     ensures complete { (bytes : List ℕ) → S.left input.old ≡ Some bytes
@@ -168,13 +169,8 @@ fn named_keys(alloc: Global, name: &str, word: &str) -> Result<Option<Keys>, Mem
     let Some(key) = key_of(alloc, word)? else {
         return Ok(None);
     };
-    match String::from_str(alloc, name) {
-        Ok(name) => Ok(Some(Keys {
-            account: TextValue::new(name),
-            key,
-        })),
-        Err(_) => Err(Memory),
-    }
+    let account = TextValue::new(String::from_str(alloc, name)?);
+    Ok(Some(Keys { account, key }))
 }
 
 /// The key that a word says: none for an open account, and otherwise its bytes in standard Base64.
@@ -201,15 +197,21 @@ fn decoded(alloc: Global, text: &str) -> Result<Option<BytesValue>, Memory>
     }
 }
 
-/// Whether the text is 3 to 24 lower-case ASCII letters and digits.
+/// The fewest bytes that the name of an account has.
+pub const SHORTEST_ACCOUNT: usize = 3;
+
+/// The most bytes that the name of an account has.
+pub const LONGEST_ACCOUNT: usize = 24;
+
+/// Whether the text is lower-case ASCII letters and digits, as few and as many as an account's name has.
 #[tactic(auto, unfolding(crate::specs::Commands::is_account))]
 fn is_account(name: &str) -> bool
     ensures { result ≡ is_account name.now }
 {
-    if name.len() < 3 {
+    if name.len() < SHORTEST_ACCOUNT {
         return false;
     }
-    if name.len() > 24 {
+    if name.len() > LONGEST_ACCOUNT {
         return false;
     }
     are_account_bytes(name.as_bytes())
@@ -224,7 +226,7 @@ fn are_account_bytes(bytes: &[u8]) -> bool
 fn is_account_byte(b: u8) -> bool
     ensures { result ≡ is_account_byte b }
 {
-    (b >= 97 && b <= 122) || (b >= 48 && b <= 57)
+    b.is_ascii_lowercase() || b.is_ascii_digit()
 }
 
 /// The exit status of a schedule that stopped so.

@@ -1,3 +1,4 @@
+//! The events of a schedule, each of which has one spelling.
 ghost use Rattle.std.specs.Prelude.{◌≡◌, ◌≢◌, ℕ, List, ◌++◌, vec_items};
 ghost use Rattle.tab_drive.specs.Schedule.{Fits, end_line, spelling};
 ghost use Rattle.tab_drive.specs.declared.schedule.Scheduled.{Scheduled as TheEvent};

@@ -1,9 +1,10 @@
+//! The loop over a schedule: one event after another is read, taken and answered.
 ghost use Rattle.std.specs.Prelude.{◌≡◌, ◌<◌, ◌≤◌, ◌-◌, ◌^◌, IfNone, IfSome, IfOk, OnErr, Some};
 ghost use Rattle.tab_outside.specs.Faults.{Rose};
 ghost use Rattle.tab_history.specs.Legality.{Legal};
 ghost use Rattle.tab_drive.specs.RunStates.{RunState, first_state};
 ghost use Rattle.tab_drive.specs.Sessions.{Keeps};
-ghost use Rattle.tab_drive.specs.Runs.{EventServed, StopsServing, Stops};
+ghost use Rattle.tab_drive.specs.Runs.{traffic, EventServed, StopsServing, Stops};
 
 use crate::outgoing::write_outgoing;
 use crate::reading::{NextEvent, Unread, next_event};
@@ -38,9 +39,9 @@ pub fn serve_event<S: Source, K: Sink>(
     output: &mut K,
 ) -> Option<RunStop>
     ensures served { (state : RunState) → Keeps session.old state → IfNone result (EventServed keys.now state
-        (record { left_before = S.left input.old; left = S.left input.new; taken_before = K.taken output.old; taken = K.taken output.new }) session.old session.new) }
+        (traffic (S.left input.old) (S.left input.new) (K.taken output.old) (K.taken output.new)) session.old session.new) }
     ensures stopped { (state : RunState) → Keeps session.old state → IfSome result (StopsServing keys.now state
-        (record { left_before = S.left input.old; left = S.left input.new; taken_before = K.taken output.old; taken = K.taken output.new }) session.old session.new) }
+        (traffic (S.left input.old) (S.left input.new) (K.taken output.old) (K.taken output.new)) session.old session.new) }
     ensures numbered { session.old.number < 2 ^ 64 }
     ensures read_fault { result ≡ Some RunStop.ReadFault → Rose (S.faults input.old) (S.faults input.new) }
     ensures write_fault { result ≡ Some RunStop.WriteFault → Rose (K.faults output.old) (K.faults output.new) }
@@ -85,7 +86,7 @@ pub fn serve<S: Source, K: Sink>(
     output: &mut K,
 ) -> Result<Served, Memory>
     ensures stops { IfOk result (λ served. Stops keys.now moment
-        (record { left_before = S.left input.old; left = S.left input.new; taken_before = K.taken output.old; taken = K.taken output.new }) served.history.items served.done served.stop) }
+        (traffic (S.left input.old) (S.left input.new) (K.taken output.old) (K.taken output.new)) served.history.items served.done served.stop) }
     ensures legal { IfOk result (λ served. Legal first_state served.history.items) }
     ensures read_fault { IfOk result (λ served. served.stop ≡ RunStop.ReadFault → Rose (S.faults input.old) (S.faults input.new)) }
     ensures write_fault { IfOk result (λ served. served.stop ≡ RunStop.WriteFault → Rose (K.faults output.old) (K.faults output.new)) }

@@ -1,3 +1,4 @@
+//! A store on its way through a schedule: what one event does to it, to the history, and gives to be written.
 ghost use Rattle.std.specs.Prelude.{◌≡◌, ◌≢◌, ◌+◌, ◌-◌, ◌^◌, ◌<◌, ◌≤◌, [], ◌∷◌, ◌++◌, IfOk, IfSome, OnOk, OnErr, vec_len, vec_capacity};
 ghost use Rattle.tab_service.specs.Replies.{reply_text};
 ghost use Rattle.tab_service.specs.Forms.{IsInForm};

@@ -1,3 +1,4 @@
+//! A store in memory, what a request comes to over it, and what that does to it.
 ghost use Rattle.std.specs.Prelude.{◌≡◌, ◌≤◌, ℕ, [], length, IfOk, OnErr, Some};
 ghost use Rattle.tab_drive.specs.Stores.{held_by, held_then, table_for, denial, answered, IsDecided, HasRoom, MayLack, found_or_not};
 ghost use Rattle.tab_ops.specs.Changes.{applied};

@@ -1,3 +1,4 @@
+//! The tables of a store in the order of their names without case.
 ghost use Rattle.std.specs.Prelude.{◌≡◌, ◌≤◌, [], None, OnOk, IfOk, MatchOption, take, slice_get};
 ghost use Rattle.std.specs.Ordering.{is_lt};
 ghost use Rattle.tab_keys.specs.Order.{name_cmp};

@@ -1,6 +1,7 @@
 -- The requests that messages come to are in their form, and a message comes to one thing alone.
 use Rattle.std.proofs.Common.{◌≡◌, ℕ, ◌+◌, List, [], ◌∷◌, Bool, true, false, cond, Option, Some, None, Result, Ok, Err, IfOk, if◌then◌else◌, refl, sym, ap, subst, ◌∙◌, codes, bytes_eq, ◌||◌}
 use Rattle.std.specs.Prelude.{⊤}
+use Rattle.tab_keys.specs.Results.{◌>>=◌}
 use Rattle.tab_auth.specs.Checks.{refusal}
 use Rattle.tab_auth.specs.declared.checks.AuthRefused.{AuthRefused}
 use Rattle.tab_auth.specs.declared.signatures.Keys.{Keys}
@@ -15,13 +16,13 @@ use Rattle.tab_ops.specs.declared.groups.GroupRefused.{GroupRefused}
 use Rattle.tab_batch.specs.Refusals.{Answer, IsBatchAnswer}
 use Rattle.tab_service.specs.Targets.{query_of}
 use Rattle.tab_service.specs.Signing.{signed_of}
-use Rattle.tab_service.specs.TableQueries.{unless_refused, table_window}
+use Rattle.tab_service.specs.TableQueries.{table_window}
 use Rattle.tab_service.specs.Preferences.{format_for, format_with_body, preference_for}
 use Rattle.tab_service.specs.Conditions.{condition_for, needed_condition}
 use Rattle.tab_service.specs.Requests.{tables_request, create_request, drop_request, page_request, row_request, change_operation, single, table_name, row_keys, body_name, query_options, query_select, read_body, given_keys, entity_for, op_for, insert_from, write_from, decided_tables, decided_create, decided_drop, decided_page, decided_row, decided_insert, decided_write, decided_delete, change_in_rows, change_of_row, resource_at}
 use Rattle.tab_service.specs.Forms.{IsPartOf, ArePartsOf, IsInForm}
 use Rattle.tab_service.specs.Batches.{Operations, part_on, part_of, with_part, operations_from, request_for, grouped_request, batch_request, boundary_in, IsReadUnder, IsBatchOf}
-use Rattle.tab_service.specs.Decisions.{on_tables, on_table, on_rows, on_row, on_batch, one_request, decided_on, decided_at, unless_denied, asked_of, answered, ComesTo, IsDecision}
+use Rattle.tab_service.specs.Decisions.{on_tables, on_table, on_rows, on_row, on_batch, one_request, decided_on, decided_at, if_signed, asked_of, answered, ComesTo, IsDecision}
 use Rattle.tab_service.specs.declared.batches.PartRefusal.{PartRefusal}
 use Rattle.tab_service.specs.declared.decisions.Asked.{Asked}
 use Rattle.tab_service.specs.declared.decisions.Asked.TheVariants.{One, Many}
@@ -50,7 +51,7 @@ abbrev IsSound : Result Operation Refusal → Type 0
 IsSound decided = IfOk decided OfItem
 
 -- what comes of anything that was found
-through : {A B : Type 0} → (P : B → Type 0) (found : Result A Refusal) (next : A → Result B Refusal) → ((a : A) → IfOk (next a) P) → IfOk (unless_refused found next) P
+through : {A B : Type 0} → (P : B → Type 0) (found : Result A Refusal) (next : A → Result B Refusal) → ((a : A) → IfOk (next a) P) → IfOk (found >>= next) P
 through P (Ok a) next keeps = keeps a
 through P (Err why) next keeps = tt
 
@@ -59,7 +60,7 @@ either P true a b x y = x
 either P false a b x y = y
 
 -- what is made of what was found
-made : {A B : Type 0} → (P : B → Type 0) (found : Result A Refusal) (make : A → B) → ((a : A) → P (make a)) → IfOk (unless_refused found (λ a. Ok (make a))) P
+made : {A B : Type 0} → (P : B → Type 0) (found : Result A Refusal) (make : A → B) → ((a : A) → P (make a)) → IfOk (found >>= λ a. Ok (make a)) P
 made P (Ok a) make is = is a
 made P (Err why) make is = tt
 
@@ -68,14 +69,14 @@ made P (Err why) make is = tt
 tables_keep : (account query : List ℕ) (headers : List Header) → Keeps account (decided_tables account query headers)
 unfolding decided_tables
 tables_keep account query headers =
-    through (IsInForm account) (format_for headers) (λ minimal. unless_refused (table_window query) (λ window. Ok (tables_request account minimal window)))
+    through (IsInForm account) (format_for headers) (λ minimal. table_window query >>= λ window. Ok (tables_request account minimal window))
     (λ minimal. made (IsInForm account) (table_window query) (λ window. tables_request account minimal window)
     (λ window. record { of_account = refl; suits = (record { plain = record { insert = refl; delete = refl }; prefer = refl }, refl) }))
 
 create_keeps : (account : List ℕ) (headers : List Header) (body : List ℕ) → Keeps account (decided_create account headers body)
 unfolding decided_create
 create_keeps account headers body =
-    through (IsInForm account) (format_with_body headers) (λ minimal. unless_refused (body_name body) (λ name. Ok (create_request account minimal (preference_for headers) name)))
+    through (IsInForm account) (format_with_body headers) (λ minimal. body_name body >>= λ name. Ok (create_request account minimal (preference_for headers) name))
     (λ minimal. made (IsInForm account) (body_name body) (λ name. create_request account minimal (preference_for headers) name)
     (λ name. record { of_account = refl; suits = (record { insert = refl; delete = refl }, refl) }))
 
@@ -88,14 +89,14 @@ drop_keeps account headers name =
 page_keeps : (account query : List ℕ) (headers : List Header) (name : List ℕ) → Keeps account (decided_page account query headers name)
 unfolding decided_page
 page_keeps account query headers name =
-    through (IsInForm account) (format_for headers) (λ minimal. unless_refused (query_options query) (λ options. Ok (page_request account minimal name options)))
+    through (IsInForm account) (format_for headers) (λ minimal. query_options query >>= λ options. Ok (page_request account minimal name options))
     (λ minimal. made (IsInForm account) (query_options query) (λ options. page_request account minimal name options)
     (λ options. record { of_account = refl; suits = (record { plain = record { insert = refl; delete = refl }; prefer = refl }, refl) }))
 
 row_keeps : (account query : List ℕ) (headers : List Header) (name : List ℕ) (keys : List ℕ × List ℕ) → Keeps account (decided_row account query headers name keys)
 unfolding decided_row
 row_keeps account query headers name keys =
-    through (IsInForm account) (format_for headers) (λ minimal. unless_refused (query_select query) (λ select. Ok (row_request account minimal select name keys)))
+    through (IsInForm account) (format_for headers) (λ minimal. query_select query >>= λ select. Ok (row_request account minimal select name keys))
     (λ minimal. made (IsInForm account) (query_select query) (λ select. row_request account minimal select name keys)
     (λ select. record { of_account = refl; suits = (record { plain = record { insert = refl; delete = refl }; prefer = refl }, refl) }))
 
@@ -103,14 +104,14 @@ row_keeps account query headers name keys =
 
 insert_from_sound : (minimal : Bool) (prefer : Prefer) (name : List ℕ) (body : BodyEntity) → IsSound (insert_from minimal prefer name body)
 insert_from_sound minimal prefer name body =
-    through OfItem (given_keys body) (λ keys. unless_refused (entity_for keys body) (λ entity. Ok (change_operation minimal prefer name keys (Insert entity))))
+    through OfItem (given_keys body) (λ keys. entity_for keys body >>= λ entity. Ok (change_operation minimal prefer name keys (Insert entity)))
     (λ keys. made OfItem (entity_for keys body) (λ entity. change_operation minimal prefer name keys (Insert entity))
     (λ entity. record { insert = refl; delete = refl; prefer = tt }))
 
 insert_sound : (headers : List Header) (name body : List ℕ) → IsSound (decided_insert headers name body)
 unfolding decided_insert
 insert_sound headers name body =
-    through OfItem (format_with_body headers) (λ minimal. unless_refused (read_body body) (λ given. insert_from minimal (preference_for headers) name given))
+    through OfItem (format_with_body headers) (λ minimal. read_body body >>= λ given. insert_from minimal (preference_for headers) name given)
     (λ minimal. through OfItem (read_body body) (λ given. insert_from minimal (preference_for headers) name given)
     (λ given. insert_from_sound minimal (preference_for headers) name given))
 
@@ -129,16 +130,16 @@ write_from_sound minimal writing name keys condition body =
 write_sound : (headers : List Header) (name : List ℕ) (keys : List ℕ × List ℕ) (writing : Writing) (body : List ℕ) → IsSound (decided_write headers name keys writing body)
 unfolding decided_write
 write_sound headers name keys writing body =
-    through OfItem (format_with_body headers) (λ minimal. unless_refused (condition_for headers) (λ condition. unless_refused (read_body body) (λ given. write_from minimal writing name keys condition given)))
-    (λ minimal. through OfItem (condition_for headers) (λ condition. unless_refused (read_body body) (λ given. write_from minimal writing name keys condition given))
+    through OfItem (format_with_body headers) (λ minimal. condition_for headers >>= λ condition. read_body body >>= λ given. write_from minimal writing name keys condition given)
+    (λ minimal. through OfItem (condition_for headers) (λ condition. read_body body >>= λ given. write_from minimal writing name keys condition given)
     (λ condition. through OfItem (read_body body) (λ given. write_from minimal writing name keys condition given)
     (λ given. write_from_sound minimal writing name keys condition given)))
 
 delete_sound : (headers : List Header) (name : List ℕ) (keys : List ℕ × List ℕ) → IsSound (decided_delete headers name keys)
 unfolding decided_delete
 delete_sound headers name keys =
-    through OfItem (format_for headers) (λ minimal. unless_refused (condition_for headers) (λ found. unless_refused (needed_condition found) (λ condition. Ok (change_operation minimal Unsaid name keys (Delete condition)))))
-    (λ minimal. through OfItem (condition_for headers) (λ found. unless_refused (needed_condition found) (λ condition. Ok (change_operation minimal Unsaid name keys (Delete condition))))
+    through OfItem (format_for headers) (λ minimal. condition_for headers >>= λ found. needed_condition found >>= λ condition. Ok (change_operation minimal Unsaid name keys (Delete condition)))
+    (λ minimal. through OfItem (condition_for headers) (λ found. needed_condition found >>= λ condition. Ok (change_operation minimal Unsaid name keys (Delete condition)))
     (λ found. made OfItem (needed_condition found) (λ condition. change_operation minimal Unsaid name keys (Delete condition)) (λ condition. record { insert = refl; delete = refl; prefer = refl })))
 
 in_rows_sound : (message : Message) (name : List ℕ) → IsSound (change_in_rows message name)
@@ -207,20 +208,20 @@ one_keeps account (Err why) keeps = tt
 batch_keeps : (account : List ℕ) (message : Message) → KeepsAsked account (on_batch message)
 unfolding on_batch
 batch_keeps account message =
-    let many : Result Asked Refusal = unless_refused (format_with_body message.headers) (λ minimal. Ok (Many minimal)) in
+    let many : Result Asked Refusal = format_with_body message.headers >>= λ minimal. Ok (Many minimal) in
     either (IsKept account) (bytes_eq message.method (codes "POST")) many (Err Method) (made (IsKept account) (format_with_body message.headers) (λ minimal. Many minimal) (λ minimal. tt)) tt
 
 on_keeps : (account : List ℕ) (message : Message) (resource : Resource) → KeepsAsked account (decided_on account message resource)
 on_keeps account message Tables = one_keeps account (on_tables account message) (on_tables_keeps account message)
 on_keeps account message (Table name) =
-    one_keeps account (unless_refused (table_name name) (λ found. on_table account message found))
+    one_keeps account (table_name name >>= λ found. on_table account message found)
     (through (IsInForm account) (table_name name) (λ found. on_table account message found) (λ found. on_table_keeps account message found))
 on_keeps account message (Rows name) =
-    one_keeps account (unless_refused (table_name name) (λ found. on_rows account message found))
+    one_keeps account (table_name name >>= λ found. on_rows account message found)
     (through (IsInForm account) (table_name name) (λ found. on_rows account message found) (λ found. on_rows_keeps account message found))
 on_keeps account message (Row name pk rk) =
-    one_keeps account (unless_refused (table_name name) (λ found. unless_refused (row_keys pk rk) (λ keys. on_row account message found keys)))
-    (through (IsInForm account) (table_name name) (λ found. unless_refused (row_keys pk rk) (λ keys. on_row account message found keys))
+    one_keeps account (table_name name >>= λ found. row_keys pk rk >>= λ keys. on_row account message found keys)
+    (through (IsInForm account) (table_name name) (λ found. row_keys pk rk >>= λ keys. on_row account message found keys)
     (λ found. through (IsInForm account) (row_keys pk rk) (λ keys. on_row account message found keys) (λ keys. on_row_keeps account message found keys)))
 on_keeps account message Batch = batch_keeps account message
 
@@ -229,7 +230,7 @@ unfolding decided_at
 at_keeps account message =
     through (IsKept account) (resource_at account message) (λ resource. decided_on account message resource) (λ resource. on_keeps account message resource)
 
-denied_keeps : (account : List ℕ) (why : Option AuthRefused) (decided : Result Asked Refusal) → KeepsAsked account decided → KeepsAsked account (unless_denied why decided)
+denied_keeps : (account : List ℕ) (why : Option AuthRefused) (decided : Result Asked Refusal) → KeepsAsked account decided → KeepsAsked account (if_signed why decided)
 denied_keeps account None decided keeps = keeps
 denied_keeps account (Some why) decided keeps = tt
 
@@ -244,7 +245,7 @@ part_on_sound message Tables = tt
 part_on_sound message (Table name) = tt
 part_on_sound message (Rows name) = through OfItem (table_name name) (λ found. change_in_rows message found) (λ found. in_rows_sound message found)
 part_on_sound message (Row name pk rk) =
-    through OfItem (table_name name) (λ found. unless_refused (row_keys pk rk) (λ keys. change_of_row message found keys))
+    through OfItem (table_name name) (λ found. row_keys pk rk >>= λ keys. change_of_row message found keys)
     (λ found. through OfItem (row_keys pk rk) (λ keys. change_of_row message found keys) (λ keys. of_row_sound message found keys))
 part_on_sound message Batch = tt
 

@@ -1,5 +1,6 @@
 -- What a batch comes to: the operations of its parts as one group, or its first refusal.
 use Rattle.std.specs.Prelude.{◌≡◌, ℕ, ◌+◌, List, [], ◌∷◌, Bool, true, Option, Some, None, option_and_then, Result, Ok, Err, codes}
+use Rattle.tab_keys.specs.Results.{◌>>=◌}
 use Rattle.tab_ops.specs.Groups.{ItemView, most_items, grouped}
 use Rattle.tab_ops.specs.declared.groups.GroupRefused.{GroupRefused}
 use Rattle.tab_ops.specs.declared.groups.GroupRefused.TheVariants as group
@@ -12,7 +13,6 @@ use Rattle.tab_batch.specs.Boundaries.{boundary_of}
 use Rattle.tab_batch.specs.Refusals.{Answer, IsBatchAnswer}
 use Rattle.tab_batch.specs.declared.refusals.BatchRefused.{BatchRefused}
 use Rattle.tab_batch.specs.declared.refusals.BatchRefused.TheVariants as batch
-use Rattle.tab_service.specs.TableQueries.{unless_refused}
 use Rattle.tab_service.specs.Requests.{table_name, row_keys, change_in_rows, change_of_row, resource_at}
 use Rattle.tab_service.specs.declared.batches.PartRefusal.{PartRefusal}
 use Rattle.tab_service.specs.declared.forms.Form.{Form}
@@ -30,15 +30,15 @@ use Rattle.tab_service.specs.declared.writes.Operation.{Operation}
 abbrev pub part_on : Message → Resource → Result Operation Refusal
 part_on message Tables = Err Path
 part_on message (Table name) = Err Path
-part_on message (Rows name) = unless_refused (table_name name) (λ found. change_in_rows message found)
+part_on message (Rows name) = table_name name >>= λ found. change_in_rows message found
 part_on message (Row name pk rk) =
-    unless_refused (table_name name)
-    (λ found. unless_refused (row_keys pk rk)
-    (λ keys. change_of_row message found keys))
+    table_name name >>= λ found.
+    row_keys pk rk >>= λ keys.
+    change_of_row message found keys
 part_on message Batch = Err Path
 
 unfoldable pub part_of : List ℕ → Message → Result Operation Refusal
-part_of account message = unless_refused (resource_at account message) (λ resource. part_on message resource)
+part_of account message = resource_at account message >>= λ resource. part_on message resource
 
 -- operations, and the forms of their parts
 abbrev pub Operations : Type 0

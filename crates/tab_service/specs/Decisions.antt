@@ -1,5 +1,6 @@
 -- What a message comes to: a request to the store, or a refusal.
 use Rattle.std.specs.Prelude.{◌≡◌, ℕ, List, Option, Some, None, Result, Ok, Err, if◌then◌else◌, codes, bytes_eq}
+use Rattle.tab_keys.specs.Results.{◌>>=◌}
 use Rattle.tab_auth.specs.Checks.{refusal}
 use Rattle.tab_auth.specs.declared.checks.AuthRefused.{AuthRefused}
 use Rattle.tab_auth.specs.declared.signatures.Keys.{Keys}
@@ -8,7 +9,6 @@ use Rattle.tab_service.specs.Targets.{query_of}
 use Rattle.tab_service.specs.Signing.{signed_of}
 use Rattle.tab_service.specs.Preferences.{format_with_body}
 use Rattle.tab_service.specs.Refusals.{refusal_text}
-use Rattle.tab_service.specs.TableQueries.{unless_refused}
 use Rattle.tab_service.specs.Requests.{single, table_name, row_keys, decided_tables, decided_create, decided_drop, decided_page, decided_row, change_in_rows, change_of_row, resource_at}
 use Rattle.tab_service.specs.Batches.{IsBatchOf}
 use Rattle.tab_service.specs.declared.batches.PartRefusal.{PartRefusal}
@@ -51,7 +51,7 @@ on_row account message name keys =
 -- whether the reply to a batch is to have minimal metadata, which is said of every request with a body
 unfoldable pub on_batch : Message → Result Asked Refusal
 on_batch message =
-    if bytes_eq message.method (codes "POST") then unless_refused (format_with_body message.headers) (λ minimal. Ok (Many minimal))
+    if bytes_eq message.method (codes "POST") then format_with_body message.headers >>= λ minimal. Ok (Many minimal)
     else Err Method
 
 -- ---- by resource
@@ -63,28 +63,26 @@ one_request (Err why) = Err why
 -- what is asked of a resource, whose name and keys are read before the method
 abbrev pub decided_on : List ℕ → Message → Resource → Result Asked Refusal
 decided_on account message Tables = one_request (on_tables account message)
-decided_on account message (Table name) = one_request (unless_refused (table_name name) (λ found. on_table account message found))
-decided_on account message (Rows name) = one_request (unless_refused (table_name name) (λ found. on_rows account message found))
+decided_on account message (Table name) = one_request (table_name name >>= λ found. on_table account message found)
+decided_on account message (Rows name) = one_request (table_name name >>= λ found. on_rows account message found)
 decided_on account message (Row name pk rk) =
-    one_request (unless_refused (table_name name)
-    (λ found. unless_refused (row_keys pk rk)
-    (λ keys. on_row account message found keys)))
+    one_request (table_name name >>= λ found. row_keys pk rk >>= λ keys. on_row account message found keys)
 decided_on account message Batch = on_batch message
 
 -- what is asked of what the path names
 unfoldable pub decided_at : List ℕ → Message → Result Asked Refusal
-decided_at account message = unless_refused (resource_at account message) (λ resource. decided_on account message resource)
+decided_at account message = resource_at account message >>= λ resource. decided_on account message resource
 
 -- ---- messages
 
-abbrev pub unless_denied : Option AuthRefused → Result Asked Refusal → Result Asked Refusal
-unless_denied None decided = decided
-unless_denied (Some why) decided = Err (Auth why)
+abbrev pub if_signed : Option AuthRefused → Result Asked Refusal → Result Asked Refusal
+if_signed None decided = decided
+if_signed (Some why) decided = Err (Auth why)
 
 -- What a message asks of this account at this moment, or its first refusal: for its signature, its path, its table name, its
 -- keys, its method, its format, its options, its condition and its body. A batch is not read further here.
 unfoldable pub asked_of : Keys → ℕ → Message → Result Asked Refusal
-asked_of keys now message = unless_denied (refusal keys (signed_of message) now) (decided_at keys.account message)
+asked_of keys now message = if_signed (refusal keys (signed_of message) now) (decided_at keys.account message)
 
 -- what a request, or a batch, comes to
 abbrev pub answered : Result Request PartRefusal → Decided

@@ -40,12 +40,12 @@ abbrev pub names_atom : Option (List ℕ) → Bool
 names_atom None = false
 names_atom (Some value) = has_part (codes "application/atom+xml") (map to_ascii_lowercase value)
 
-abbrev pub unless_atom : Bool → Bool → Result Bool Refusal
-unless_atom atom minimal = if atom then Err Format else Ok minimal
+abbrev pub format_if_json : Bool → Bool → Result Bool Refusal
+format_if_json atom minimal = if atom then Err Format else Ok minimal
 
 abbrev pub read_as_json : Option (List ℕ) → Result Bool Refusal → Result Bool Refusal
 read_as_json kind (Err why) = Err why
-read_as_json kind (Ok minimal) = unless_atom (names_atom kind) minimal
+read_as_json kind (Ok minimal) = format_if_json (names_atom kind) minimal
 
 -- the same for a request with a body, which is read as JSON unless the first Content-Type header names Atom
 unfoldable pub format_with_body : List Header → Result Bool Refusal

@@ -1,5 +1,6 @@
 -- What is asked of a table or of one of its rows, in the order in which such a request may be refused.
 use Rattle.std.specs.Prelude.{ℕ, List, [], ◌∷◌, length, Bool, true, false, Option, Some, None, Result, Ok, Err, if◌then◌else◌, codes, bytes_eq, ◌||◌}
+use Rattle.tab_keys.specs.Results.{◌>>=◌}
 use Rattle.tab_keys.specs.KeyTexts.{units_of, key_refusal}
 use Rattle.tab_keys.specs.TableNames.{name_refusal}
 use Rattle.tab_keys.specs.declared.table_names.NameRefused.{NameRefused}
@@ -23,7 +24,7 @@ use Rattle.tab_json.specs.declared.bodies.JsonRefused.{JsonRefused}
 use Rattle.tab_json.specs.declared.bodies.JsonRefused.TheVariants as json
 use Rattle.tab_service.specs.Conditions.{condition_for, needed_condition}
 use Rattle.tab_service.specs.Preferences.{format_for, format_with_body, preference_for}
-use Rattle.tab_service.specs.TableQueries.{unless_refused, option_unless, table_window}
+use Rattle.tab_service.specs.TableQueries.{options_result, table_window}
 use Rattle.tab_service.specs.Targets.{path_of, resource_in}
 use Rattle.tab_service.specs.declared.forms.Form.{Form}
 use Rattle.tab_service.specs.declared.forms.PartForm.{PartForm}
@@ -105,41 +106,44 @@ drop_request account minimal name = record { ask = ask.Drop name; form = form_of
 
 -- ---- parts of requests
 
-abbrev pub name_unless : List ℕ → Option NameRefused → Result (List ℕ) Refusal
-name_unless text None = Ok text
-name_unless text (Some why) = Err Name
+abbrev pub valid_name : List ℕ → Option NameRefused → Result (List ℕ) Refusal
+valid_name text None = Ok text
+valid_name text (Some why) = Err Name
 
 -- the name of a table, in a path or a body
 unfoldable pub table_name : List ℕ → Result (List ℕ) Refusal
-table_name text = name_unless text (name_refusal text)
+table_name text = valid_name text (name_refusal text)
 
-abbrev pub key_unless : List ℕ → Option KeyRefused → Result (List ℕ) Refusal
-key_unless text None = Ok text
-key_unless text (Some why) = Err (Key why)
+abbrev pub valid_key : List ℕ → Option KeyRefused → Result (List ℕ) Refusal
+valid_key text None = Ok text
+valid_key text (Some why) = Err (Key why)
 
 -- a key of a path
 unfoldable pub path_key : List ℕ → Result (List ℕ) Refusal
-path_key text = key_unless text (key_refusal text)
+path_key text = valid_key text (key_refusal text)
 
 -- the keys of a path
 unfoldable pub row_keys : List ℕ → List ℕ → Result (List ℕ × List ℕ) Refusal
-row_keys pk rk = unless_refused (path_key pk) (λ p. unless_refused (path_key rk) (λ r. Ok (p, r)))
+row_keys pk rk =
+    path_key pk >>= λ p.
+    path_key rk >>= λ r.
+    Ok (p, r)
 
 -- the options of a query
 unfoldable pub query_options : List ℕ → Result Options Refusal
-query_options query = option_unless (read_options query)
+query_options query = options_result (read_options query)
 
 -- the properties that a query asks for
 unfoldable pub query_select : List ℕ → Result Select Refusal
-query_select query = option_unless (read_select query)
+query_select query = options_result (read_select query)
 
-abbrev pub body_unless : Result BodyEntity JsonRefused → Result BodyEntity Refusal
-body_unless (Ok body) = Ok body
-body_unless (Err why) = Err (Body why)
+abbrev pub body_result : Result BodyEntity JsonRefused → Result BodyEntity Refusal
+body_result (Ok body) = Ok body
+body_result (Err why) = Err (Body why)
 
 -- what a body says
 unfoldable pub read_body : List ℕ → Result BodyEntity Refusal
-read_body bytes = body_unless (entity_body bytes)
+read_body bytes = body_result (entity_body bytes)
 
 -- why a body names no table
 abbrev pub name_fault : JsonRefused → Refusal
@@ -163,56 +167,59 @@ given_key None = Err KeysMissing
 given_key (Some key) = Ok key
 
 abbrev pub given_keys : BodyEntity → Result (List ℕ × List ℕ) Refusal
-given_keys body = unless_refused (given_key body.pk) (λ pk. unless_refused (given_key body.rk) (λ rk. Ok (pk, rk)))
+given_keys body =
+    given_key body.pk >>= λ pk.
+    given_key body.rk >>= λ rk.
+    Ok (pk, rk)
 
-abbrev pub entity_unless : Result EntityView EdmRefused → Result EntityView Refusal
-entity_unless (Ok entity) = Ok entity
-entity_unless (Err why) = Err (Entity why)
+abbrev pub entity_result : Result EntityView EdmRefused → Result EntityView Refusal
+entity_result (Ok entity) = Ok entity
+entity_result (Err why) = Err (Entity why)
 
 -- the entity of a body, for a row with these keys
 abbrev pub entity_for : List ℕ × List ℕ → BodyEntity → Result EntityView Refusal
-entity_for keys body = entity_unless (made (length (units_of keys.0)) (length (units_of keys.1)) body.properties)
+entity_for keys body = entity_result (made (length (units_of keys.0)) (length (units_of keys.1)) body.properties)
 
 -- ---- requests in the order of their refusals
 
 unfoldable pub decided_tables : List ℕ → List ℕ → List Header → Result Request Refusal
 decided_tables account query headers =
-    unless_refused (format_for headers)
-    (λ minimal. unless_refused (table_window query)
-    (λ window. Ok (tables_request account minimal window)))
+    format_for headers >>= λ minimal.
+    table_window query >>= λ window.
+    Ok (tables_request account minimal window)
 
 unfoldable pub decided_create : List ℕ → List Header → List ℕ → Result Request Refusal
 decided_create account headers body =
-    unless_refused (format_with_body headers)
-    (λ minimal. unless_refused (body_name body)
-    (λ name. Ok (create_request account minimal (preference_for headers) name)))
+    format_with_body headers >>= λ minimal.
+    body_name body >>= λ name.
+    Ok (create_request account minimal (preference_for headers) name)
 
 unfoldable pub decided_drop : List ℕ → List Header → List ℕ → Result Request Refusal
-decided_drop account headers name = unless_refused (format_for headers) (λ minimal. Ok (drop_request account minimal name))
+decided_drop account headers name = format_for headers >>= λ minimal. Ok (drop_request account minimal name)
 
 unfoldable pub decided_page : List ℕ → List ℕ → List Header → List ℕ → Result Request Refusal
 decided_page account query headers name =
-    unless_refused (format_for headers)
-    (λ minimal. unless_refused (query_options query)
-    (λ options. Ok (page_request account minimal name options)))
+    format_for headers >>= λ minimal.
+    query_options query >>= λ options.
+    Ok (page_request account minimal name options)
 
 unfoldable pub decided_row : List ℕ → List ℕ → List Header → List ℕ → List ℕ × List ℕ → Result Request Refusal
 decided_row account query headers name keys =
-    unless_refused (format_for headers)
-    (λ minimal. unless_refused (query_select query)
-    (λ select. Ok (row_request account minimal select name keys)))
+    format_for headers >>= λ minimal.
+    query_select query >>= λ select.
+    Ok (row_request account minimal select name keys)
 
 abbrev pub insert_from : Bool → Prefer → List ℕ → BodyEntity → Result Operation Refusal
 insert_from minimal prefer name body =
-    unless_refused (given_keys body)
-    (λ keys. unless_refused (entity_for keys body)
-    (λ entity. Ok (change_operation minimal prefer name keys (Insert entity))))
+    given_keys body >>= λ keys.
+    entity_for keys body >>= λ entity.
+    Ok (change_operation minimal prefer name keys (Insert entity))
 
 unfoldable pub decided_insert : List Header → List ℕ → List ℕ → Result Operation Refusal
 decided_insert headers name body =
-    unless_refused (format_with_body headers)
-    (λ minimal. unless_refused (read_body body)
-    (λ given. insert_from minimal (preference_for headers) name given))
+    format_with_body headers >>= λ minimal.
+    read_body body >>= λ given.
+    insert_from minimal (preference_for headers) name given
 
 -- an entity that is written whole or into a kept one, on its condition, if it has one
 abbrev pub op_for : Writing → EntityView → Option Match → Op
@@ -223,22 +230,23 @@ op_for Merging entity (Some condition) = Merge entity condition
 
 abbrev pub write_from : Bool → Writing → List ℕ → List ℕ × List ℕ → Option Match → BodyEntity → Result Operation Refusal
 write_from minimal writing name keys condition body =
-    unless_refused (entity_for keys body) (λ entity. Ok (change_operation minimal Unsaid name keys (op_for writing entity condition)))
+    entity_for keys body >>= λ entity.
+    Ok (change_operation minimal Unsaid name keys (op_for writing entity condition))
 
 -- the keys in the body are read, and those of the path taken
 unfoldable pub decided_write : List Header → List ℕ → List ℕ × List ℕ → Writing → List ℕ → Result Operation Refusal
 decided_write headers name keys writing body =
-    unless_refused (format_with_body headers)
-    (λ minimal. unless_refused (condition_for headers)
-    (λ condition. unless_refused (read_body body)
-    (λ given. write_from minimal writing name keys condition given)))
+    format_with_body headers >>= λ minimal.
+    condition_for headers >>= λ condition.
+    read_body body >>= λ given.
+    write_from minimal writing name keys condition given
 
 unfoldable pub decided_delete : List Header → List ℕ → List ℕ × List ℕ → Result Operation Refusal
 decided_delete headers name keys =
-    unless_refused (format_for headers)
-    (λ minimal. unless_refused (condition_for headers)
-    (λ found. unless_refused (needed_condition found)
-    (λ condition. Ok (change_operation minimal Unsaid name keys (Delete condition)))))
+    format_for headers >>= λ minimal.
+    condition_for headers >>= λ found.
+    needed_condition found >>= λ condition.
+    Ok (change_operation minimal Unsaid name keys (Delete condition))
 
 -- ---- operations by method
 
@@ -257,10 +265,10 @@ change_of_row message name keys =
 
 -- ---- what a path names
 
-abbrev pub unless_missing : Option Resource → Result Resource Refusal
-unless_missing None = Err Path
-unless_missing (Some resource) = Ok resource
+abbrev pub named_or_refused : Option Resource → Result Resource Refusal
+named_or_refused None = Err Path
+named_or_refused (Some resource) = Ok resource
 
 -- the resource that the path of a message names
 abbrev pub resource_at : List ℕ → Message → Result Resource Refusal
-resource_at account message = unless_missing (resource_in account (path_of message.target))
+resource_at account message = named_or_refused (resource_in account (path_of message.target))

@@ -1,6 +1,7 @@
 -- What a query asks of the list of tables.
 use Rattle.std.specs.Prelude.{ℕ, List, [], ◌∷◌, Option, Some, None, Result, Ok, Err, codes}
 use Rattle.form_urlencoded.specs.Form.{raw_pairs}
+use Rattle.tab_keys.specs.Results.{◌>>=◌}
 use Rattle.tab_keys.specs.TableNames.{name_refusal}
 use Rattle.tab_keys.specs.declared.table_names.NameRefused.{NameRefused}
 use Rattle.tab_page.specs.Queries.{values, single, top_of}
@@ -12,45 +13,41 @@ use Rattle.tab_service.specs.declared.refusals.Refusal.TheVariants.{Options, Fil
 use Rattle.tab_service.specs.declared.table_queries.TableWindow.{TableWindow}
 
 -- what comes next, unless the request was refused before
-abbrev pub unless_refused : {A B : Type 0} → Result A Refusal → (A → Result B Refusal) → Result B Refusal
-unless_refused (Ok found) next = next found
-unless_refused (Err why) next = Err why
-
-abbrev pub option_unless : {A : Type 0} → Result A OptionRefused → Result A Refusal
-option_unless (Ok found) = Ok found
-option_unless (Err why) = Err (Options why)
+abbrev pub options_result : {A : Type 0} → Result A OptionRefused → Result A Refusal
+options_result (Ok found) = Ok found
+options_result (Err why) = Err (Options why)
 
 -- the value of an option, which stands once at the most
 unfoldable pub sole_option : List ℕ → List ℕ → Result (Option (List ℕ)) Refusal
-sole_option word query = option_unless (single (values word (raw_pairs query)))
+sole_option word query = options_result (single (values word (raw_pairs query)))
 
 -- how many tables
 unfoldable pub count_of : Option (List ℕ) → Result ℕ Refusal
-count_of top = option_unless (top_of top)
+count_of top = options_result (top_of top)
 
-abbrev pub name_unless_refused : List ℕ → Option NameRefused → Result (Option (List ℕ)) Refusal
-name_unless_refused name None = Ok (Some name)
-name_unless_refused name (Some why) = Err (Options option.BadToken)
+abbrev pub token_name : List ℕ → Option NameRefused → Result (Option (List ℕ)) Refusal
+token_name name None = Ok (Some name)
+token_name name (Some why) = Err (Options option.BadToken)
 
 -- a token of a table's name; one of another text is none
-abbrev pub name_unless_none : Option (List ℕ) → Result (Option (List ℕ)) Refusal
-name_unless_none None = Err (Options option.BadToken)
-name_unless_none (Some name) = name_unless_refused name (name_refusal name)
+abbrev pub name_in_token : Option (List ℕ) → Result (Option (List ℕ)) Refusal
+name_in_token None = Err (Options option.BadToken)
+name_in_token (Some name) = token_name name (name_refusal name)
 
 -- the table that the list begins with
 abbrev pub after_of : Option (List ℕ) → Result (Option (List ℕ)) Refusal
 after_of None = Ok None
-after_of (Some token) = name_unless_none (read_token token)
+after_of (Some token) = name_in_token (read_token token)
 
-abbrev pub unless_filtered : List (List ℕ) → TableWindow → Result TableWindow Refusal
-unless_filtered [] window = Ok window
-unless_filtered (filter ∷ more) window = Err FilterOfTables
+abbrev pub without_filter : List (List ℕ) → TableWindow → Result TableWindow Refusal
+without_filter [] window = Ok window
+without_filter (filter ∷ more) window = Err FilterOfTables
 
 -- what is asked, or the first refusal: a doubled option, `$top`, the token, and last a filter, of which none is taken
 unfoldable pub table_window : List ℕ → Result TableWindow Refusal
 table_window query =
-    unless_refused (sole_option (codes "$top") query)
-    (λ top. unless_refused (sole_option (codes "NextTableName") query)
-    (λ token. unless_refused (count_of top)
-    (λ count. unless_refused (after_of token)
-    (λ after. unless_filtered (values (codes "$filter") (raw_pairs query)) (record { after = after; top = count })))))
+    sole_option (codes "$top") query >>= λ top.
+    sole_option (codes "NextTableName") query >>= λ token.
+    count_of top >>= λ count.
+    after_of token >>= λ after.
+    without_filter (values (codes "$filter") (raw_pairs query)) (record { after = after; top = count })

@@ -1,3 +1,5 @@
+//! The requests of a batch: the operations of its parts as one group, or its first refusal (multipart/mixed, RFC 2046,
+//! section 5.1; the reference of Microsoft's Table service, "Performing entity group transactions").
 ghost use Rattle.std.specs.Prelude.{◌≡◌, [], ◌∷◌, ◌++◌, IfOk, OnOk, Ok};
 ghost use Rattle.std.specs.Option.{option_copied};
 ghost use Rattle.tab_service.specs.Batches.{part_on, part_of, operations_from, group_index, batch_form, request_for, grouped_request, unread, boundary_in, IsBatchOf};
@@ -120,12 +122,8 @@ impl Operations {
         ensures { OnOk result (self.new ≡ (self.old.0 ++ part.item ∷ [], self.old.1 ++ part.form ∷ [])) }
     {
         let Operation { item, form } = part;
-        let Ok(()) = self.items.push(item) else {
-            return Err(Memory);
-        };
-        let Ok(()) = self.forms.push(form) else {
-            return Err(Memory);
-        };
+        self.items.push(item)?;
+        self.forms.push(form)?;
         Ok(())
     }
 }
@@ -236,9 +234,7 @@ fn batch_form(
 ) -> Result<Form, Memory>
     ensures { IfOk result (λ form. form ≡ batch_form account.now minimal parts.items) }
 {
-    let Ok(account) = String::from_str(alloc, account) else {
-        return Err(Memory);
-    };
+    let account = String::from_str(alloc, account)?;
     let select = Select::All;
     Ok(Form {
         account: TextValue::new(account),

@@ -1,3 +1,5 @@
+//! What a message comes to: signature, path, name, keys, then what its method asks of its resource. The first refusal in
+//! this order is answered.
 ghost use Rattle.std.specs.Prelude.{◌≡◌, ℕ, IfOk};
 ghost use Rattle.tab_auth.specs.declared.signatures.Keys.{Keys};
 ghost use Rattle.tab_auth.specs.Checks.{refusal};

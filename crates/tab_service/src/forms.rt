@@ -1,3 +1,4 @@
+//! What a request asks, and in which form its reply is wanted.
 ghost use Rattle.std.specs.Prelude.{◌≡◌, [], ◌∷◌, IfOk};
 
 use std::alloc::Global;
@@ -58,10 +59,8 @@ impl PartForms {
         ensures { IfOk result (λ forms. forms ≡ form ∷ []) }
     {
         let mut forms = Vec::new(alloc);
-        match forms.push(form) {
-            Ok(()) => Ok(PartForms { forms }),
-            Err(_) => Err(Memory),
-        }
+        forms.push(form)?;
+        Ok(PartForms { forms })
     }
 
     pub fn as_slice(&self) -> &[PartForm]

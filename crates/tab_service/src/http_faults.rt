@@ -1,3 +1,4 @@
+//! The replies to bytes that are no message of HTTP/1.1 (RFC 9112), made beforehand, since they take no memory.
 ghost use Rattle.std.specs.Prelude.{◌≡◌};
 ghost use Rattle.std.specs.Option.{option_copied};
 ghost use Rattle.tab_service.specs.Causes as cause;

@@ -1,7 +1,9 @@
+//! What headers ask of the reply: Accept and Content-Type (RFC 9110, sections 12.5.1 and 8.3; the formats of OData 3.0's
+//! JSON), and Prefer (RFC 7240; Preference-Applied, section 3).
 ghost use Rattle.std.specs.Prelude.{◌≡◌, IfOk};
 ghost use Rattle.std.specs.Option.{option_copied};
 ghost use Rattle.tab_http.specs.Headers.{first_value};
-ghost use Rattle.tab_service.specs.Preferences.{has_part, asks_atom, format_in, format_for, names_atom, unless_atom, format_with_body, preference_for};
+ghost use Rattle.tab_service.specs.Preferences.{has_part, asks_atom, format_in, format_for, names_atom, format_if_json, format_with_body, preference_for};
 
 use crate::{Prefer, Refusal};
 use std::alloc::Global;
@@ -16,10 +18,8 @@ pub(crate) fn format_for(alloc: Global, headers: &[Header]) -> Result<Result<boo
     let Some(value) = first_value(headers, "accept") else {
         return Ok(Ok(true));
     };
-    match value.to_ascii_lowercase(alloc) {
-        Ok(text) => Ok(format_in(&text)),
-        Err(_) => Err(Memory),
-    }
+    let text = value.to_ascii_lowercase(alloc)?;
+    Ok(format_in(&text))
 }
 
 /// The format that a text in lower case asks for.
@@ -48,11 +48,11 @@ pub(crate) fn format_with_body(
         Err(why) => return Ok(Err(why)),
     };
     let atom = names_atom(alloc, first_value(headers, "content-type"))?;
-    Ok(unless_atom(atom, minimal))
+    Ok(format_if_json(atom, minimal))
 }
 
-fn unless_atom(atom: bool, minimal: bool) -> Result<bool, Refusal>
-    ensures { result ≡ unless_atom atom minimal }
+fn format_if_json(atom: bool, minimal: bool) -> Result<bool, Refusal>
+    ensures { result ≡ format_if_json atom minimal }
 {
     if atom {
         Err(Refusal::Format)
@@ -68,10 +68,8 @@ fn names_atom(alloc: Global, value: Option<&[u8]>) -> Result<bool, Memory>
     let Some(value) = value else {
         return Ok(false);
     };
-    match value.to_ascii_lowercase(alloc) {
-        Ok(text) => Ok(has_part(b"application/atom+xml", &text)),
-        Err(_) => Err(Memory),
-    }
+    let text = value.to_ascii_lowercase(alloc)?;
+    Ok(has_part(b"application/atom+xml", &text))
 }
 
 /// What the first Prefer header says.

@@ -1,3 +1,4 @@
+//! Queries as `application/x-www-form-urlencoded` (the URL standard, section 5.1): the values of one word.
 ghost use Rattle.std.specs.Prelude.{◌≡◌, [], ◌∷◌, ◌++◌, IfOk, OnOk};
 ghost use Rattle.form_urlencoded.specs.Form.{raw_pairs};
 ghost use Rattle.tab_page.specs.Queries.{values};
@@ -28,15 +29,11 @@ fn add_value(
 ) -> Result<(), Memory>
     ensures { OnOk result (found.new.items ≡ found.old.items ++ values word.now ((name.now, value.now) ∷ [])) }
 {
-    let Ok(name) = decode(alloc, name) else {
-        return Err(Memory);
-    };
+    let name = decode(alloc, name)?;
     if name.as_str() != word {
         return Ok(());
     }
-    let Ok(value) = decode(alloc, value) else {
-        return Err(Memory);
-    };
+    let value = decode(alloc, value)?;
     let value = owned(alloc, value.as_str())?;
     found.push(value).map_err(|_| Memory)
 }
@@ -45,8 +42,5 @@ fn add_value(
 pub(crate) fn owned(alloc: Global, text: &str) -> Result<TextValue, Memory>
     ensures { IfOk result (λ value. value ≡ text.now) }
 {
-    match String::from_str(alloc, text) {
-        Ok(text) => Ok(TextValue::new(text)),
-        Err(_) => Err(Memory),
-    }
+    Ok(TextValue::new(String::from_str(alloc, text)?))
 }

@@ -1,3 +1,4 @@
+//! Requests that read: a page of a table, and one row (the Table service's "Query Entities").
 ghost use Rattle.std.specs.Prelude.{◌≡◌, IfOk};
 ghost use Rattle.tab_service.specs.Requests.{form_of, plain_part, page_request, row_request, path_key, row_keys, query_options, query_select, decided_page, decided_row};
 
@@ -162,9 +163,7 @@ pub(crate) fn form_of(
 ) -> Result<Form, Memory>
     ensures { IfOk result (λ form. form ≡ form_of account.now select part) }
 {
-    let Ok(account) = String::from_str(alloc, account) else {
-        return Err(Memory);
-    };
+    let account = String::from_str(alloc, account)?;
     let minimal = part.minimal;
     Ok(Form {
         account: TextValue::new(account),

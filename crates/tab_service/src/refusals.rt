@@ -1,3 +1,4 @@
+//! Why a request is refused before the store is asked, and the reply by each cause, alone or as the part of a batch.
 ghost use Rattle.std.specs.Prelude.{◌≡◌, ◌++◌, IfOk, codes, decimal, string_bytes};
 ghost use Rattle.tab_service.specs.Causes as cause;
 ghost use Rattle.tab_service.specs.Replies.{fault_at, error_text_at};
@@ -228,7 +229,7 @@ fn offset_fault(
 ) -> Result<Vec<u8>, Memory>
     ensures { IfOk result (λ bytes. bytes.items ≡ fault_at index 400 (codes "InvalidInput") (before.now ++ decimal offset ++ codes ".")) }
 {
-    let offset = offset.to_string(alloc).map_err(|_| Memory)?;
+    let offset = offset.to_string(alloc)?;
     let text = around(alloc, before, offset.as_str(), ".")?;
     input_fault(alloc, index, text.as_str())
 }

@@ -1,3 +1,5 @@
+//! The bytes of replies: status line and headers of HTTP/1.1 (RFC 9112, sections 4 and 5), and the bodies of the Table
+//! service's answers.
 ghost use Rattle.std.specs.Prelude.{◌≡◌, ◌≤◌, ◌∷◌, ◌++◌, [], Some, length, map, flat_map, codes, decimal, string_bytes, vec_items, IfOk, OnOk};
 ghost use Rattle.std.specs.Option.{option_copied};
 ghost use Rattle.http.specs.StatusCode.{IsStatusCode};
@@ -197,9 +199,7 @@ fn operation_replies(
             return Ok(replies);
         };
         let reply = operation_reply(alloc, account, *part, item, tick)?;
-        let Ok(()) = replies.push(reply) else {
-            return Err(Memory);
-        };
+        replies.push(reply)?;
         forms = more;
         left = later;
     }
@@ -242,7 +242,7 @@ fn written_reply(alloc: Global, tick: u64) -> Result<Vec<u8>, Memory>
 pub(crate) fn bodiless_bytes(alloc: Global, headers: &[(&str, &str)]) -> Result<Vec<u8>, Memory>
     ensures { IfOk result (λ bytes. bytes.items ≡ bodiless_reply 204 (map (λ header. (header.0.now, header.1.now)) headers.now)) }
 {
-    let head = bodiless_text(alloc, 204, headers).map_err(|_| Memory)?;
+    let head = bodiless_text(alloc, 204, headers)?;
     Ok(head.into_bytes())
 }
 
@@ -472,7 +472,7 @@ pub(crate) fn fault_reply(
 fn indexed_text(alloc: Global, index: usize, text: &str) -> Result<String, Memory>
     ensures { IfOk result (λ indexed. string_bytes indexed ≡ indexed_text index text.now) }
 {
-    let index = index.to_string(alloc).map_err(|_| Memory)?;
+    let index = index.to_string(alloc)?;
     around(alloc, index.as_str(), ":", text)
 }
 

@@ -1,3 +1,4 @@
+//! What of a message its sender signs: SharedKeyLite of the Table service ("Authorize with Shared Key").
 ghost use Rattle.std.specs.Prelude.{◌≡◌, IfOk, Some, None, if◌then◌else◌, option_and_then};
 ghost use Rattle.std.specs.List.{list_any};
 ghost use Rattle.std.specs.Option.{option_copied};
@@ -41,7 +42,7 @@ fn sole_value<'h>(headers: &'h [Header], name: &str) -> Option<&'h [u8]>
     let mut left = headers;
     while let Some((first, later)) = left.split_first() {
         if first.is_named(name) {
-            return unless_doubled(first, later, name);
+            return first_if_sole(first, later, name);
         }
         left = later;
     }
@@ -49,7 +50,7 @@ fn sole_value<'h>(headers: &'h [Header], name: &str) -> Option<&'h [u8]>
 }
 
 /// The value of a header that no later one has the name of.
-fn unless_doubled<'h>(first: &'h Header, later: &[Header], name: &str) -> Option<&'h [u8]>
+fn first_if_sole<'h>(first: &'h Header, later: &[Header], name: &str) -> Option<&'h [u8]>
     ensures { option_copied result ≡ (if list_any (is_named name.now) later.now then None else Some first.now.value) }
 {
     if is_among(name, later) {

@@ -1,7 +1,8 @@
+//! The query of a list of tables (the Table service's "Query Tables").
 ghost use Rattle.std.specs.Prelude.{◌≡◌, Ok, Err, IfOk, MatchResult};
 ghost use Rattle.std.specs.Option.{option_copied};
 ghost use Rattle.tab_page.specs.Queries.{single};
-ghost use Rattle.tab_service.specs.TableQueries.{option_unless, count_of, after_of, name_unless_refused, unless_filtered, table_window};
+ghost use Rattle.tab_service.specs.TableQueries.{options_result, count_of, after_of, token_name, without_filter, table_window};
 ghost use Rattle.tab_keys.specs.TableNames.{name_refusal};
 
 use crate::Refusal;
@@ -50,14 +51,14 @@ pub(crate) fn table_window(
         Err(why) => return Ok(Err(why)),
     };
     let filters = values_of(alloc, "$filter", query)?;
-    Ok(unless_filtered(&filters, TableWindow { after, top }))
+    Ok(without_filter(&filters, TableWindow { after, top }))
 }
 
 /// The one value of an option, if it has one.
 fn sole(values: &[TextValue]) -> Result<Option<&TextValue>, Refusal>
     ensures { MatchResult result
-        (λ value. option_unless (single values.now) ≡ Ok (option_copied value))
-        (λ why. option_unless (single values.now) ≡ Err why) }
+        (λ value. options_result (single values.now) ≡ Ok (option_copied value))
+        (λ why. options_result (single values.now) ≡ Err why) }
 {
     match values {
         [] => Ok(None),
@@ -101,7 +102,7 @@ fn after_of(
 
 /// The table's name that the text of a token is.
 fn name_after(alloc: Global, text: &KeyText) -> Result<Result<Option<TableName>, Refusal>, Memory>
-    ensures { IfOk result (λ after. after ≡ name_unless_refused text.now (name_refusal text.now)) }
+    ensures { IfOk result (λ after. after ≡ token_name text.now (name_refusal text.now)) }
 {
     match TableName::new(alloc, text.as_str()) {
         Ok(name) => Ok(Ok(Some(name))),
@@ -113,8 +114,8 @@ fn name_after(alloc: Global, text: &KeyText) -> Result<Result<Option<TableName>,
 }
 
 /// The window, unless the query has a filter.
-fn unless_filtered(filters: &[TextValue], window: TableWindow) -> Result<TableWindow, Refusal>
-    ensures { result ≡ unless_filtered filters.now window }
+fn without_filter(filters: &[TextValue], window: TableWindow) -> Result<TableWindow, Refusal>
+    ensures { result ≡ without_filter filters.now window }
 {
     match filters {
         [] => Ok(window),

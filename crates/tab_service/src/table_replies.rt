@@ -1,3 +1,4 @@
+//! Replies on tables: one that was made, and a list of them with the token of the next.
 ghost use Rattle.std.specs.Prelude.{◌≡◌, [], ◌∷◌, Some, IfOk, codes, string_bytes};
 ghost use Rattle.std.specs.Option.{option_copied};
 ghost use Rattle.tab_page.specs.Tokens.{token_text};
@@ -111,11 +112,7 @@ fn tables_text(alloc: Global, kind: &str, token: &str, body: &str) -> Result<Vec
 fn name_token(alloc: Global, name: &str) -> Result<String, Memory>
     ensures { IfOk result (λ text. string_bytes text ≡ token_text name.now) }
 {
-    let Ok(mut text) = String::from_str(alloc, "1.") else {
-        return Err(Memory);
-    };
-    match URL_SAFE_NO_PAD.encode_string(name.as_bytes(), &mut text) {
-        Ok(()) => Ok(text),
-        Err(_) => Err(Memory),
-    }
+    let mut text = String::from_str(alloc, "1.")?;
+    URL_SAFE_NO_PAD.encode_string(name.as_bytes(), &mut text)?;
+    Ok(text)
 }

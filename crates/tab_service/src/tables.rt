@@ -1,3 +1,4 @@
+//! Requests on tables: to make one, to drop one, to list them ("Create Table", "Delete Table", "Query Tables").
 ghost use Rattle.std.specs.Prelude.{◌≡◌, IfOk};
 ghost use Rattle.tab_service.specs.Requests.{tables_request, create_request, drop_request, table_name, body_name, decided_tables, decided_create, decided_drop};
 

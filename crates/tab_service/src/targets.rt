@@ -1,3 +1,5 @@
+//! What a request's target names: a path `/ACCOUNT/` and one segment, percent-encoded (RFC 3986, section 2.1), with the
+//! addresses of OData 3.0 (`Tables('NAME')`, `NAME(PartitionKey='P',RowKey='R')`).
 ghost use Rattle.std.specs.Prelude.{◌≡◌, IfOk, option_map, vec_items};
 ghost use Rattle.std.specs.List.{list_any};
 ghost use Rattle.std.specs.Option.{option_copied};

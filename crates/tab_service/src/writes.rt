@@ -1,8 +1,10 @@
+//! Requests that write: insert, update, replace, merge and delete of one entity (the Table service's "Insert Entity" and
+//! the pages behind it).
 ghost use Rattle.std.specs.Prelude.{◌≡◌, IfOk, length};
 ghost use Rattle.tab_keys.specs.KeyTexts.{units_of};
 ghost use Rattle.tab_edm.specs.Entities.{made};
 ghost use Rattle.tab_ops.specs.Groups.{IsMadeFor};
-ghost use Rattle.tab_service.specs.Requests.{is_insert, is_delete, change_operation, change_request, single, read_body, entity_unless, entity_for, given_keys, insert_from, op_for, write_from, decided_insert, decided_write, decided_delete, change_in_rows, change_of_row};
+ghost use Rattle.tab_service.specs.Requests.{is_insert, is_delete, change_operation, change_request, single, read_body, entity_result, entity_for, given_keys, insert_from, op_for, write_from, decided_insert, decided_write, decided_delete, change_in_rows, change_of_row};
 
 use crate::conditions::{condition_for, needed_condition};
 use crate::preferences::{format_for, format_with_body, preference_for};
@@ -186,7 +188,7 @@ fn entity_for(
     rk: &KeyText,
     properties: Properties,
 ) -> Result<Result<Entity, Refusal>, Memory>
-    ensures entity { IfOk result (λ entity. entity ≡ entity_unless (made (length (units_of pk.now)) (length (units_of rk.now)) properties)) }
+    ensures entity { IfOk result (λ entity. entity ≡ entity_result (made (length (units_of pk.now)) (length (units_of rk.now)) properties)) }
     ensures made_for { IfOk result (λ entity. IfOk entity (λ e. (e.pk_units ≡ length (units_of pk.now)) × (e.rk_units ≡ length (units_of rk.now)))) }
 {
     match Entity::new(pk.units(), rk.units(), properties.into_vec()) {
