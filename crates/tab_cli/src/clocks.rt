@@ -18,6 +18,7 @@ pub struct RealClock {
 }
 
 impl RealClock {
+    /// A clock of this runtime, which it copies.
     pub fn new(runtime: &HostRuntime) -> Result<RealClock, Memory>
         ensures { IfOk result (λ clock. ⟦<RealClock as Clock>⟧.moment clock ≡ 0) }
     {

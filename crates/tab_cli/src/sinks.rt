@@ -13,6 +13,7 @@ pub struct StdSink {
 }
 
 impl StdSink {
+    /// Writes to here, with no fault so far.
     pub fn new(stdout: Stdout) -> StdSink
         ensures { ⟦<StdSink as Sink>⟧.faults result ≡ 0 }
     {

@@ -18,6 +18,7 @@ pub struct StdSource {
 }
 
 impl StdSource {
+    /// Reads from here with a buffer of BUFFER_SIZE bytes.
     pub fn new(alloc: Global, stdin: Stdin) -> Result<StdSource, Memory>
         ensures { IfOk result (λ source. ⟦<StdSource as Source>⟧.faults source ≡ 0) }
     {

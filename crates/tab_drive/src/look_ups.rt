@@ -12,7 +12,9 @@ use tab_keys::{Memory, TableName};
 /// A name that was looked up, and the number of its table, if it is there.
 #[derive(Drop)]
 pub struct LookUp {
+    /// The name as the request spells it.
     pub name: TableName,
+    /// The number of the table of that name.
     pub table: Option<u64>,
 }
 

@@ -30,6 +30,7 @@ impl Model for AllKeys {
 }
 
 impl AllKeys {
+    /// The span from the bound before all keys to the end. It takes memory for an empty key.
     pub fn new(alloc: Global) -> Result<AllKeys, Memory> {
         let first = AllKeys::first_bound(alloc)?;
         Ok(AllKeys {

@@ -32,6 +32,7 @@ pub struct Ended {
     /// The exit status: 0 at the schedule's end, 1 for words that are no command, 2 for a refused event, 3 where the
     /// source failed, 4 where the sink did, and 7 where no memory was found.
     pub status: u8,
+    /// What was asked and answered, from the opening on.
     pub history: History,
     /// How many events were answered whole.
     pub done: u64,

@@ -20,12 +20,14 @@ impl Model for RawMessage {
 }
 
 impl RawMessage {
+    /// These bytes. It takes no memory.
     pub fn new(bytes: Vec<u8>) -> RawMessage
         ensures { result ≡ bytes.items }
     {
         RawMessage { bytes }
     }
 
+    /// The bytes as they came.
     pub fn as_slice(&self) -> &[u8]
         ensures { result.now ≡ self.now }
     {

@@ -72,8 +72,11 @@ pub fn serve_event<S: Source, K: Sink>(
 /// Where a schedule stopped: why, how many of its events were answered whole, and the history.
 #[derive(Drop)]
 pub struct Served {
+    /// Why it was read no further.
     pub stop: RunStop,
+    /// How many events were answered whole.
     pub done: u64,
+    /// The entries of all events that were taken, the opening's first.
     pub history: Vec<Entry>,
 }
 

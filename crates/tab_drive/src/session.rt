@@ -27,7 +27,9 @@ pub struct Session {
     pub moment: u64,
     /// The number of the next event, from 1 on.
     pub number: u64,
+    /// What is kept.
     pub store: Store,
+    /// The entries so far, the opening's first.
     pub history: Vec<Entry>,
 }
 

@@ -19,9 +19,11 @@ use tab_rows::{Change, Rows};
 /// A store in memory: tables, and the rows of all of them.
 #[derive(Drop)]
 pub struct Store {
+    /// The tables, by name.
     pub tables: Tables,
     /// The number of the next table that is made.
     pub next_table: u64,
+    /// The rows of all tables, in the order of their keys.
     pub rows: Rows,
     /// The least tick that the next change may have.
     pub next_tick: u64,
@@ -32,7 +34,9 @@ pub struct Store {
 /// What a request comes to: its reply, and what it does to the store.
 #[derive(Drop)]
 pub struct StoreAnswer {
+    /// What the client is told.
     pub reply: Reply,
+    /// What is done then.
     pub effect: Effect,
 }
 

@@ -107,7 +107,7 @@ impl Tables {
     }
 }
 
-// Where the table of that name stands among tables in order.
+/// Where the table of that name stands among tables in order.
 fn find_index(tables: &[Table], name: &TableName) -> Option<usize>
     requires { AreInOrder tables.now }
     ensures { MatchOption result (table_of tables.now name.now ≡ None) (StandsAt tables.now name.now) }
@@ -120,7 +120,7 @@ fn find_index(tables: &[Table], name: &TableName) -> Option<usize>
     found.ok()
 }
 
-// How many of the tables in order have a name below this one.
+/// How many of the tables in order have a name below this one.
 fn count_below(tables: &[Table], name: &TableName) -> usize
     requires { AreInOrder tables.now }
     ensures { BeginsAt tables.now name.now result }
@@ -132,7 +132,7 @@ fn count_below(tables: &[Table], name: &TableName) -> usize
     )
 }
 
-// The tables from a name on, or all of them.
+/// The tables from a name on, or all of them.
 fn tables_from<'a>(tables: &'a [Table], after: &Option<TableName>) -> &'a [Table]
     requires { AreInOrder tables.now }
     ensures { spellings result.now ≡ names_from tables.now after.now }
@@ -143,7 +143,7 @@ fn tables_from<'a>(tables: &'a [Table], after: &Option<TableName>) -> &'a [Table
     }
 }
 
-// Copies of the names of the tables.
+/// Copies of the names of the tables.
 fn names_of(alloc: Global, tables: &[Table]) -> Result<TableNames, Memory>
     ensures { IfOk result (λ names. names ≡ spellings tables.now) }
 {
@@ -156,7 +156,7 @@ fn names_of(alloc: Global, tables: &[Table]) -> Result<TableNames, Memory>
     Ok(TableNames::new(names))
 }
 
-// A copy of the name of the table at this index, where there is one.
+/// A copy of the name of the table at this index, where there is one.
 fn name_at(alloc: Global, tables: &[Table], index: u16) -> Result<Option<TableName>, Memory>
     ensures { IfOk result (λ name. name ≡ slice_get (spellings tables.now) index) }
 {

@@ -29,6 +29,7 @@ const FIRST_TOO_MANY: usize = 100;
 pub struct PartRefusal {
     /// The index of the part that is refused, or none where the batch is refused as a whole.
     pub index: Option<usize>,
+    /// Why.
     pub why: Refusal,
 }
 

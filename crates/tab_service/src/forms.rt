@@ -48,6 +48,7 @@ impl Model for PartForms {
 }
 
 impl PartForms {
+    /// These forms. It takes no memory.
     pub fn new(forms: Vec<PartForm>) -> PartForms
         ensures { result ≡ forms.items }
     {
@@ -63,6 +64,7 @@ impl PartForms {
         Ok(PartForms { forms })
     }
 
+    /// The forms, one for each part.
     pub fn as_slice(&self) -> &[PartForm]
         ensures { result.now ≡ self.now }
     {
@@ -86,7 +88,9 @@ pub struct Form {
 /// What a message asks, and how it wants its reply.
 #[derive(Debug, Drop)]
 pub struct Request {
+    /// What the store is asked.
     pub ask: Ask,
+    /// How the reply is wanted.
     pub form: Form,
 }
 
@@ -105,12 +109,14 @@ impl Model for ReplyBytes {
 }
 
 impl ReplyBytes {
+    /// These bytes. It takes no memory.
     pub fn new(bytes: Vec<u8>) -> ReplyBytes
         ensures { result ≡ bytes.items }
     {
         ReplyBytes { bytes }
     }
 
+    /// The whole message of HTTP/1.1: head and body.
     pub fn as_slice(&self) -> &[u8]
         ensures { result.now ≡ self.now }
     {

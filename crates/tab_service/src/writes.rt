@@ -31,7 +31,9 @@ pub enum Writing {
 /// An operation on a row, and how its reply is wanted.
 #[derive(Debug, Drop)]
 pub struct Operation {
+    /// What it does, and to which row.
     pub item: Item,
+    /// How its reply is wanted.
     pub form: PartForm,
 }
 
