@@ -1,8 +1,6 @@
 //! The top call: one command over a source, a sink and a clock. A key is standard Base64 (RFC 4648, section 4).
 ghost use Rattle.std.specs.Prelude.{◌≡◌, ◌≢◌, ◌⊎◌, ◌<◌, ◌-◌, ◌^◌, ℕ, List, [], ◌≤◌, map, flat_map, string_bytes, Contains, MatchOption, IfOk, Some, None};
 ghost use Rattle.std.specs.List.{list_all};
-ghost use Rattle.base64.specs.Engines.{standard};
-ghost use Rattle.base64.specs.GeneralPurpose.{decoded_of};
 ghost use Rattle.tab_outside.specs.Faults.{Rose};
 ghost use Rattle.tab_auth.specs.declared.signatures.Keys.{Keys};
 ghost use Rattle.tab_history.specs.Legality.{Legal};
@@ -16,8 +14,6 @@ ghost use Rattle.tab_drive.specs.Completeness.{IsServable};
 
 use crate::outgoing::write_pieces;
 use crate::serving::{RunStop, serve};
-use base64::DecodeAllocError;
-use base64::engine::general_purpose::STANDARD;
 use itoa::Buffer;
 use std::alloc::Global;
 use tab_auth::Keys;
@@ -181,20 +177,10 @@ fn key_of(alloc: Global, word: &str) -> Result<Option<Option<BytesValue>>, Memor
     if word == "-" {
         return Ok(Some(None));
     }
-    match decoded(alloc, word)? {
-        Some(key) => Ok(Some(Some(key))),
-        None => Ok(None),
-    }
-}
-
-/// The bytes that a text is in standard Base64.
-fn decoded(alloc: Global, text: &str) -> Result<Option<BytesValue>, Memory>
-    ensures { IfOk result (λ found. found ≡ decoded_of standard text.now) }
-{
-    match STANDARD.decode(alloc, text.as_bytes()) {
-        Ok(bytes) => Ok(Some(BytesValue::new(bytes))),
-        Err(DecodeAllocError::OutOfMemory) => Err(Memory),
-        Err(DecodeAllocError::DecodeError(_)) => Ok(None),
+    match BytesValue::from_base64(alloc, word) {
+        Ok(Some(key)) => Ok(Some(Some(key))),
+        Ok(None) => Ok(None),
+        Err(_) => Err(Memory),
     }
 }
 
