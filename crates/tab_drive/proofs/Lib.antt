@@ -2,7 +2,6 @@ mod FirstWorld
 mod RangeLemmas
 mod TableLemmas
 mod TableIndexes
-pub mod Decimals
 pub mod Decisions
 pub mod Events
 pub mod Exits

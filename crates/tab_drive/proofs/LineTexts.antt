@@ -1,14 +1,23 @@
 -- How bytes are cut at the first line feed, and that a line's text says one thing.
 use Rattle.std.proofs.Common.{◌≡◌, ◌≢◌, ℕ, ◌^◌, ◌<◌, ◌≤◌, List, [], ◌∷◌, ◌++◌, length, length-append, get_or, drop, ap, refl, sym, ◌∙◌, arith, decimal, codes}
-use Rattle.std.proofs.lemmas.Fmt.{decimal_injective, length-decimal-le}
+use Rattle.std.specs.Str.Parse.{AllDigits}
+use Rattle.std.proofs.lemmas.Fmt.{decimal_injective, decimal_is_IsNumeral, length-decimal-le}
+use Rattle.std.proofs.lemmas.Str.Parse.{digit_from_value}
 use Rattle.tab_drive.specs.Schedule.{line_feed}
 use Rattle.tab_drive.specs.Lines.{IsLine, IsInRange, line_text}
 use Rattle.tab_drive.specs.declared.lines.ScheduleLine.{ScheduleLine}
 use Rattle.tab_drive.specs.declared.lines.ScheduleLine.TheVariants as lines
 use Rattle.tab_drive.specs.declared.lines.TheConstants.{LONGEST_MESSAGE}
 use Rattle.tab_drive.specs.declared.reading.TheConstants.{LONGEST_LINE}
-use Rattle.tab_drive.proofs.Decimals.{IsLine-decimal}
 use Rattle.tab_drive.proofs.OpenLines.{IsLine-append}
+
+-- digits end no line
+IsLine-from_digits : (ds : List ℕ) → AllDigits 10 ds → IsLine ds
+IsLine-from_digits [] d = tt
+IsLine-from_digits (c ∷ cs) d = (λ is. omega (arith, digit_from_value c d.0), IsLine-from_digits cs d.1)
+
+IsLine-decimal : (n : ℕ) → n < 2 ^ 64 → IsLine (decimal n)
+IsLine-decimal n small = IsLine-from_digits (decimal n) (decimal_is_IsNumeral n small).0.1
 
 heads : (a b : ℕ) (xs ys : List ℕ) → a ∷ xs ≡ b ∷ ys → a ≡ b
 heads a b xs ys is = ap (λ (l : List ℕ). get_or l 0 0) is
