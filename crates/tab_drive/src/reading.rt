@@ -1,9 +1,9 @@
 //! The next event of a schedule, read from a source byte by byte up to its end.
-ghost use Rattle.std.specs.Prelude.{◌≡◌, ◌≤◌, IfOk, OnErr, IsErrOf};
+ghost use Rattle.std.specs.Prelude.{◌≡◌, IfOk, OnErr, IsErrOf};
 ghost use Rattle.tab_drive.specs.Reading.{ReadsNext, TookPart, IfTold, Took, ReadsLine, HasNoLine, IsOpenLine, ReadsMessage, HasNoMessage, IsOpenMessage, unread_for};
 ghost use Rattle.tab_drive.specs.Schedule.{IsNoEvent};
 ghost use Rattle.tab_drive.specs.declared.reading.Unread.TheVariants.{Fault, Memory};
-ghost use Rattle.tab_outside.specs.Faults.{Rose};
+ghost use Rattle.tab_outside.specs.Faults.{HasCauseFor};
 
 use crate::lines::{ScheduleLine, parse_line};
 use crate::schedule::{RawMessage, Scheduled};
@@ -42,8 +42,7 @@ pub fn next_event<S: Source>(alloc: Global, source: &mut S) -> Result<NextEvent,
     ensures read { IfOk result (ReadsNext (S.left source.old) (S.left source.new)) }
     ensures refused { IsErrOf result Unread.NoEvent → IfTold (S.left source.old) IsNoEvent }
     ensures part { OnErr result (TookPart (S.left source.old) (S.left source.new)) }
-    ensures fault { IsErrOf result Unread.Fault → Rose (S.faults source.old) (S.faults source.new) }
-    ensures later { S.faults source.old ≤ S.faults source.new }
+    ensures cause { HasCauseFor (S.faults source.old) (S.faults source.new) result Unread.Fault }
     ensures beside { S.beside source.new ≡ S.beside source.old }
 {
     let line = read_line(alloc, source)?;
@@ -93,8 +92,7 @@ fn read_line<S: Source>(alloc: Global, source: &mut S) -> Result<Vec<u8>, Unread
     ensures read { IfOk result (λ line. ReadsLine (S.left source.old) (S.left source.new) line.items) }
     ensures refused { IsErrOf result Unread.NoEvent → IfTold (S.left source.old) HasNoLine }
     ensures part { OnErr result (Took IsOpenLine (S.left source.old) (S.left source.new)) }
-    ensures fault { IsErrOf result Unread.Fault → Rose (S.faults source.old) (S.faults source.new) }
-    ensures later { S.faults source.old ≤ S.faults source.new }
+    ensures cause { HasCauseFor (S.faults source.old) (S.faults source.new) result Unread.Fault }
     ensures beside { S.beside source.new ≡ S.beside source.old }
 {
     let mut line = Vec::new(alloc);
@@ -117,8 +115,7 @@ fn read_message<S: Source>(alloc: Global, source: &mut S, size: usize) -> Result
     ensures read { IfOk result (ReadsMessage size (S.left source.old) (S.left source.new)) }
     ensures refused { IsErrOf result Unread.NoEvent → IfTold (S.left source.old) (HasNoMessage size) }
     ensures part { OnErr result (Took (IsOpenMessage size) (S.left source.old) (S.left source.new)) }
-    ensures fault { IsErrOf result Unread.Fault → Rose (S.faults source.old) (S.faults source.new) }
-    ensures later { S.faults source.old ≤ S.faults source.new }
+    ensures cause { HasCauseFor (S.faults source.old) (S.faults source.new) result Unread.Fault }
     ensures beside { S.beside source.new ≡ S.beside source.old }
 {
     let mut bytes = Vec::new(alloc);
