@@ -15,6 +15,7 @@ use Rattle.std.proofs.lemmas.Option.{slice_get_cases, slice_get_within, get_or_f
 use Rattle.tab_keys.specs.Order.{name_cmp}
 use Rattle.tab_keys.specs.TotalOrders.{name_cmp_total}
 use Rattle.tab_keys.proofs.OrderLaws.{lt_asymmetric, lt_transitive, lt_alike_left, lt_alike_right}
+use Rattle.tab_rows.proofs.Lists.{All-take_within, All-drop_within}
 use Rattle.tab_history.specs.World.{Named, table_of, with_name, without_name, names_from}
 use Rattle.tab_history.proofs.NameLaws.{is_named}
 use Rattle.tab_drive.specs.Tables.{AreInOrder, spellings, StandsAt, BeginsAt}
@@ -77,18 +78,6 @@ pub names_from-begins : (names : List Named) (name : List ℕ) (index : ℕ) →
 names_from-begins names name index h = sym (ap (λ all. names_from all (Some name)) (sym (take-append-drop index names)) ∙ names_from-behind (take index names) (drop index names) name h.below h.rest)
 
 -- ---- what a binary search finds
-
-module _ {X : Type 0} (P : X → Type 0) (xs : List X) (n : ℕ) where
-  All-take_within : n ≤ length xs → AllWithin P xs 0 n → All P (take n xs)
-  All-take_within le h k d below =
-      let l = length-take-le n xs le in
-      let lt : k < n = omega arith in
-      rw get_or-take (h k d (omega arith) lt)
-
-  All-drop_within : AllWithin P xs n (length xs) → All P (drop n xs)
-  All-drop_within h k d below =
-      let l = length-drop n xs in
-      rw get_or-drop (h (n + k) d (omega arith) (omega arith))
 
 module _ (names : List Named) (name : List ℕ) (index : ℕ) where
   stands_with : (named : Named) → AreInOrder names → index < length names → slice_get names index ≡ Some named → is_eq (name_cmp named.spelling name) ≡ true → StandsAt names name index

@@ -13,6 +13,7 @@ use Rattle.tab_keys.specs.Order.{name_cmp}
 use Rattle.tab_keys.specs.TableNames.{folded}
 use Rattle.tab_keys.specs.TotalOrders.{name_cmp_total}
 use Rattle.tab_keys.proofs.OrderLaws.{lt_asymmetric}
+use Rattle.tab_rows.proofs.Lists.{find_none, find_behind, filter_all, filter_back}
 use Rattle.tab_history.specs.World.{Named, table_of, with_name, without_name, is_from, names_from}
 use Rattle.tab_history.proofs.NameLaws.{is_named}
 use Rattle.tab_drive.specs.Tables.{spellings}
@@ -52,33 +53,6 @@ pub above_apart : (name : List ℕ) (other : Named) → IsFalse (is_lt (name_cmp
 above_apart name other h apart =
     ap is_lt (name_cmp_total.antisymm name other.spelling) ∙ greater_reversed (name_cmp other.spelling name) h (sym (is_named-is name other) ∙ apart)
 
--- ---- a search and a filter whose test the front fails, or the rest passes
-
-module _ {X : Type 0} (p : X → Bool) where
-  find_behind : (front back : List X) → All (λ x. p x ≡ false) front → find p (front ++ back) ≡ find p back
-  find_behind [] back h = refl
-  find_behind (x ∷ front) back h =
-      let here : p x ≡ false = All-head (λ y. p y ≡ false) x front h in
-      rw here (find_behind front back (All-tail (λ y. p y ≡ false) x front h))
-
-  find_none : (xs : List X) → All (λ x. p x ≡ false) xs → find p xs ≡ None
-  find_none [] h = refl
-  find_none (x ∷ xs) h =
-      let here : p x ≡ false = All-head (λ y. p y ≡ false) x xs h in
-      rw here (find_none xs (All-tail (λ y. p y ≡ false) x xs h))
-
-  filter_behind : (front back : List X) → All (λ x. p x ≡ false) front → filter p (front ++ back) ≡ filter p back
-  filter_behind [] back h = refl
-  filter_behind (x ∷ front) back h =
-      let here : p x ≡ false = All-head (λ y. p y ≡ false) x front h in
-      rw here (filter_behind front back (All-tail (λ y. p y ≡ false) x front h))
-
-  filter_all : (xs : List X) → All (λ x. p x ≡ true) xs → filter p xs ≡ xs
-  filter_all [] h = refl
-  filter_all (x ∷ xs) h =
-      let here : p x ≡ true = All-head (λ y. p y ≡ true) x xs h in
-      rw here (ap (λ ys. x ∷ ys) (filter_all xs (All-tail (λ y. p y ≡ true) x xs h)))
-
 -- ---- names that are all apart from one
 
 pub table_of-apart : (names : List Named) (name : List ℕ) → All (λ other. is_named name other ≡ false) names → table_of names name ≡ None
@@ -88,8 +62,7 @@ table_of-apart names name h = ap (option_map (λ named. named.table)) (find_none
 pub table_of-behind : (front : List Named) (named : Named) (back : List Named) (name : List ℕ) → All (λ other. is_named name other ≡ false) front → is_named name named ≡ true
     → table_of (front ++ named ∷ back) name ≡ Some named.table
 unfolding table_of
-table_of-behind front named back name h here =
-    ap (option_map (λ (it : Named). it.table)) (find_behind (is_named name) front (named ∷ back) h) ∙ ap (λ b. option_map (λ (it : Named). it.table) (cond b (Some named) (find (is_named name) back))) here
+table_of-behind front named back name h here = ap (option_map (λ (it : Named). it.table)) (find_behind (is_named name) front named back h here)
 
 pub without_name-apart : (names : List Named) (name : List ℕ) → All (λ other. is_named name other ≡ false) names → without_name names name ≡ names
 unfolding without_name
@@ -146,5 +119,6 @@ pub names_from-behind : (front back : List Named) (name : List ℕ) → All (λ 
 unfolding names_from
 names_from-behind front back name h k =
     ap (filter (is_from (Some name))) (map-append (λ (named : Named). named.spelling) front back)
-    ∙ (filter_behind (is_from (Some name)) (spellings front) (spellings back) (All-map (λ it. is_from (Some name) it ≡ false) (λ (named : Named). named.spelling) front (λ i d within. ap not (h i d within)))
-    ∙ filter_all (is_from (Some name)) (spellings back) (All-map (λ it. is_from (Some name) it ≡ true) (λ (named : Named). named.spelling) back (λ i d within. ap not (k i d within))))
+    ∙ filter_back (is_from (Some name)) (spellings front) (spellings back)
+    (All-map (λ it. is_from (Some name) it ≡ false) (λ (named : Named). named.spelling) front (λ i d within. ap not (h i d within)))
+    (All-map (λ it. is_from (Some name) it ≡ true) (λ (named : Named). named.spelling) back (λ i d within. ap not (k i d within))))
