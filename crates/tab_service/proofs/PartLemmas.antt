@@ -4,6 +4,7 @@ use Rattle.std.specs.Option.{MatchOption, option_copied}
 use Rattle.std.specs.List.{list_any, position_or_len, before_first, after_first}
 use Rattle.std.specs.Str.Pattern.{FindsTextSuffix, StripsSuffix}
 use Rattle.std.proofs.lemmas.Slice.Eq.{bytes_eq-Decides}
+use Rattle.tab_auth.proofs.Fronts.{any_within, none_within}
 use Rattle.tab_service.specs.Targets.{before_mark, parted}
 
 mark_lacks : (text mark : List ℕ) → ((front : List ℕ) → text ≢ front ++ mark) → (test : Bool) → bytes_eq text (take (length text - length mark) text ++ mark) ≡ test
@@ -23,16 +24,6 @@ pub cut_off : (text mark : List ℕ) (r : Option (Bor (List ℕ))) → MatchOpti
 unfolding before_mark
 cut_off text mark None lacks = mark_lacks text mark lacks (bytes_eq text (take (length text - length mark) text ++ mark)) refl
 cut_off text mark (Some x) found = mark_ends text mark x.now found.0 found.1.0 found.1.1 found.2
-
-any_within : (p : ℕ → Bool) (xs : List ℕ) → position_or_len p xs < length xs → list_any p xs ≡ true
-any_within p [] = λ h. absurd (omega arith)
-any_within p (x ∷ xs) =
-    elim (p x) as (λ test. cond (not test) (1 + position_or_len p xs) 0 < suc (length xs) → (test || list_any p xs) ≡ true) [ true ↦ λ h. refl | false ↦ λ h. any_within p xs (omega arith) ]
-
-none_within : (p : ℕ → Bool) (xs : List ℕ) → position_or_len p xs ≡ length xs → list_any p xs ≡ false
-none_within p [] = λ h. refl
-none_within p (x ∷ xs) =
-    elim (p x) as (λ test. cond (not test) (1 + position_or_len p xs) 0 ≡ suc (length xs) → (test || list_any p xs) ≡ false) [ true ↦ λ h. absurd (omega arith) | false ↦ λ h. none_within p xs (omega arith) ]
 
 -- a text parted at a byte
 pub cut_at : (byte : ℕ) (text : List ℕ) (r : Option (Bor (List ℕ) × Bor (List ℕ)))
