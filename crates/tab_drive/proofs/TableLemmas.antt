@@ -121,4 +121,4 @@ names_from-behind front back name h k =
     ap (filter (is_from (Some name))) (map-append (λ (named : Named). named.spelling) front back)
     ∙ filter_back (is_from (Some name)) (spellings front) (spellings back)
     (All-map (λ it. is_from (Some name) it ≡ false) (λ (named : Named). named.spelling) front (λ i d within. ap not (h i d within)))
-    (All-map (λ it. is_from (Some name) it ≡ true) (λ (named : Named). named.spelling) back (λ i d within. ap not (k i d within))))
+    (All-map (λ it. is_from (Some name) it ≡ true) (λ (named : Named). named.spelling) back (λ i d within. ap not (k i d within)))
