@@ -1,5 +1,5 @@
 -- How literals are read.
-use Rattle.std.specs.Prelude.{ℕ, ◌+◌, ◌-◌, ◌*◌, ◌^◌, List, [], ◌∷◌, ◌++◌, length, take, drop, Bool, true, false, not, ◌&&◌, ◌||◌, ◌==◌, Option, Some, None, Ok, Err, if◌then◌else◌, nat_le, nat_lt, codes, bytes_eq, option_map, ℤ, pos, neg_ℤ, encode_utf8, encode_utf8_all}
+use Rattle.std.specs.Prelude.{ℕ, ◌+◌, ◌-◌, ◌*◌, List, [], ◌∷◌, ◌++◌, Bool, true, false, not, ◌&&◌, ◌||◌, ◌==◌, Option, Some, None, Ok, Err, if◌then◌else◌, nat_le, nat_lt, codes, bytes_eq, option_map, ℤ, pos, neg_ℤ, encode_utf8, encode_utf8_all}
 use Rattle.uuid.specs.Text.{parsed, is_hex_digit, value_of}
 use Rattle.tab_edm.specs.declared.values.Value.{Value}
 use Rattle.tab_edm.specs.declared.values.Value.TheVariants.{Text, Flag, Int32, Int64, Moment, Guid, Bytes}
