@@ -51,7 +51,7 @@ on_row account message name keys =
 -- whether the reply to a batch is to have minimal metadata, which is said of every request with a body
 unfoldable pub on_batch : Message → Result Asked Refusal
 on_batch message =
-    if bytes_eq message.method (codes "POST") then format_with_body message.headers >>= λ minimal. Ok (Many minimal)
+    if bytes_eq message.method (codes "POST") then (format_with_body message.headers >>= λ minimal. Ok (Many minimal))
     else Err Method
 
 -- ---- by resource
