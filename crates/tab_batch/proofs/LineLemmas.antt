@@ -4,7 +4,8 @@ use Rattle.std.proofs.lemmas.Bool.{eq-eqb, ne_eqb}
 use Rattle.std.proofs.lemmas.Bool.Decides.{nat_tests}
 use Rattle.std.proofs.lemmas.List.{length-take-le, drop-drop}
 use Rattle.std.proofs.Math.Seq.{take-length, drop-length}
-use Rattle.tab_batch.specs.Lines.{cons_first, cut_lines, without_end, placed, lines_at}
+use Rattle.tab_http.specs.Headers.{cons_first}
+use Rattle.tab_batch.specs.Lines.{cut_lines, without_end, placed, lines_at}
 
 -- the first line ends at the first line feed
 pub first_line : (xs : List ℕ) (i : ℕ) → i < length xs → get_or xs i 0 ≡ 10 → ((k : ℕ) → k < i → get_or xs k 0 ≢ 10) → cut_lines xs ≡ take (suc i) xs ∷ cut_lines (drop (suc i) xs)

@@ -2,7 +2,7 @@
 use Rattle.std.proofs.Common.{◌≡◌, ℕ, suc, ◌+◌, ◌<◌, ◌≤◌, ◌&&◌, ◌==◌, Bool, true, false, not, List, [], ◌∷◌, ◌++◌, length, get_or, take, drop, refl, sym, ap, ◌∙◌, cond, arith, append-nil, append_assoc, add-one, drop-cons}
 use Rattle.std.specs.List.{list_all}
 use Rattle.std.proofs.Math.Seq.{take-suc, take-length, drop-length}
-use Rattle.tab_batch.specs.Lines.{cons_first}
+use Rattle.tab_http.specs.Headers.{cons_first}
 use Rattle.tab_batch.specs.Boundaries.{turned, pieces}
 
 -- bytes at the front of the first piece

@@ -4,7 +4,8 @@ use Rattle.std.specs.Prelude.{None, Some, Ok, Option, codes, slice_range, is_som
 use Rattle.std.specs.List.{flat_map, AllByRecursion}
 use Rattle.std.proofs.Math.Seq.{take-append_seam, drop-append_seam}
 use Rattle.std.proofs.lemmas.List.{reverse-append, reverse-reverse}
-use Rattle.tab_batch.specs.Lines.{LineView, cons_first, cut_lines, without_end, placed, lines_at, text_end}
+use Rattle.tab_http.specs.Headers.{cons_first}
+use Rattle.tab_batch.specs.Lines.{LineView, cut_lines, without_end, placed, lines_at, text_end}
 use Rattle.tab_batch.specs.Marks.{Blocks, blocks_of, add_line, mark_of}
 use Rattle.tab_batch.specs.Boundaries.{boundary_of, boundary_among, pieces, unquoted}
 use Rattle.tab_batch.specs.Parts.{Found, from_first, is_nothing, is_empty, content_type, settles, under, only_part, change_set, with_request, requests_at, when_closed, body_at, ranges_of, between, cut_out, requests_of}

@@ -10,6 +10,7 @@ use Rattle.tab_http.specs.Heads.{BeginsWithHead, HasNoHead, HasParts, IsHead}
 use Rattle.tab_http.specs.Messages.{message_of}
 use Rattle.tab_http.specs.declared.heads.Head.{Head}
 use Rattle.tab_http.specs.declared.messages.Message.{Message}
+use Rattle.tab_http.specs.declared.TheConstants.{LONGEST_HEAD}
 use Rattle.tab_batch.specs.Requests.{ending, is_path, target_on_web, target_of, IsRequest, IsNoRequest}
 use Rattle.url.specs.Parser.{parse_url}
 
@@ -27,7 +28,7 @@ fronted part tail front rest whole within =
     sym (take-append-drop (length front) part) ∙ ap (λ (xs : List ℕ). xs ++ drop (length front) part) same
 
 -- as many bytes as a head may have begin with the same heads, whatever follows them
-pub no_head_of_more : (part : List ℕ) → HasNoHead part → 32768 ≤ length part → HasNoHead (part ++ ending)
+pub no_head_of_more : (part : List ℕ) → HasNoHead part → LONGEST_HEAD ≤ length part → HasNoHead (part ++ ending)
 no_head_of_more part none long h rest begins =
     none h (drop (length (print_request h)) part) (record {
       reads = (begins.reads.0, fronted part ending (print_request h) rest begins.reads.1 (omega (arith, begins.short, long)));

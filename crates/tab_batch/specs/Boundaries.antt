@@ -2,8 +2,8 @@
 use Rattle.std.specs.Prelude.{ℕ, List, [], ◌∷◌, length, take, drop, reverse, Bool, false, not, ◌&&◌, ◌==◌, nat_le, Option, Some, None, option_and_then, codes, if◌then◌else◌}
 use Rattle.std.specs.List.{list_any}
 use Rattle.httparse.specs.Grammar.{trim_ows}
-use Rattle.tab_http.specs.Headers.{same_name}
-use Rattle.tab_batch.specs.Lines.{cons_first}
+use Rattle.tab_http.specs.Headers.{same_name, cons_first}
+use Rattle.tab_batch.specs.declared.TheConstants.{LONGEST_BOUNDARY}
 
 -- what is behind the word, where the text begins with it in any case
 abbrev pub behind_word : List ℕ → List ℕ → Option (List ℕ)
@@ -23,7 +23,7 @@ is_quote b = b == 34
 
 -- 1 to 70 bytes without a quote
 abbrev pub is_boundary : List ℕ → Bool
-is_boundary text = not (length text == 0) && nat_le (length text) 70 && not (list_any is_quote text)
+is_boundary text = not (length text == 0) && nat_le (length text) LONGEST_BOUNDARY && not (list_any is_quote text)
 
 abbrev pub boundary_at : List ℕ → Option (List ℕ)
 boundary_at text = if is_boundary text then Some text else None

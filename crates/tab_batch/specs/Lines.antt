@@ -1,16 +1,12 @@
 -- The lines of a text, with their offsets (RFC 2046, section 5.1.1, where an end may also be a line feed alone).
 use Rattle.std.specs.Prelude.{ℕ, ◌+◌, List, [], ◌∷◌, length, reverse, ◌==◌, if◌then◌else◌}
+use Rattle.tab_http.specs.Headers.{cons_first}
 
 -- where a line begins, its text without its end, and where the next line begins
 pub record LineView : Type 0 where
   pub start : ℕ
   pub text : List ℕ
   pub next : ℕ
-
--- a byte at the front of the first piece
-abbrev pub cons_first : ℕ → List (List ℕ) → List (List ℕ)
-cons_first b [] = (b ∷ []) ∷ []
-cons_first b (piece ∷ pieces) = (b ∷ piece) ∷ pieces
 
 -- cut behind each line feed, which is 10; behind the last there may be a line without one
 unfoldable pub cut_lines : List ℕ → List (List ℕ)

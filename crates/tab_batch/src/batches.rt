@@ -1,3 +1,4 @@
+//! The requests of a batch, or the first refusal.
 ghost use Rattle.std.specs.Prelude.{◌≡◌, length, map, All, IfOk, IfErr};
 ghost use Rattle.tab_batch.specs.Parts.{between};
 ghost use Rattle.tab_batch.specs.Reading.{IsBelow};
@@ -5,9 +6,9 @@ ghost use Rattle.tab_batch.specs.Refusals.{IsBatch, Refuses, PartsRefused};
 ghost use Rattle.tab_batch.specs.Requests.{AreRequests};
 
 use crate::bodies::ranges_of;
+use crate::byte_ranges::ByteRange;
 use crate::refusals::{BatchRefused, Memory};
 use crate::requests::read_request;
-use crate::byte_ranges::ByteRange;
 use std::alloc::Global;
 use tab_http::Message;
 
@@ -25,7 +26,11 @@ pub fn read_batch(
     read_requests(alloc, bytes, &ranges)
 }
 
-fn read_requests(alloc: Global, bytes: &[u8], ranges: &[ByteRange]) -> Result<Vec<Message>, BatchRefused>
+fn read_requests(
+    alloc: Global,
+    bytes: &[u8],
+    ranges: &[ByteRange],
+) -> Result<Vec<Message>, BatchRefused>
     requires { All (IsBelow (length bytes.now)) ranges.now }
     ensures read { IfOk result (λ messages. AreRequests (map (between bytes.now) ranges.now) messages.items) }
     ensures refused { IfErr result (PartsRefused (map (between bytes.now) ranges.now)) }

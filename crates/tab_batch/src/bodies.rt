@@ -1,18 +1,23 @@
+//! Where the requests stand in a multipart body (RFC 2046, section 5.1): in the parts of the change set that is its only part.
 ghost use Rattle.std.specs.Prelude.{◌≡◌, ℕ, ◌≤◌, List, [], length, Ok, All, IfOk, IfErr};
 ghost use Rattle.tab_batch.specs.Parts.{ranges_of};
 ghost use Rattle.tab_batch.specs.Reading.{Tells, in_head, in_typed_head, in_change_set, IsBelow};
 ghost use Rattle.tab_batch.specs.declared.sections.ChangeSetState.TheVariants.{Before};
 
 use crate::boundaries::{behind_word, boundary_of};
+use crate::byte_ranges::ByteRange;
 use crate::lines::line_at;
 use crate::marks::{Mark, mark_of};
 use crate::refusals::BatchRefused;
 use crate::sections::Section;
-use crate::byte_ranges::ByteRange;
 use std::alloc::Global;
 
 /// Where the requests of a batch stand.
-pub fn ranges_of(alloc: Global, boundary: &[u8], bytes: &[u8]) -> Result<Vec<ByteRange>, BatchRefused>
+pub fn ranges_of(
+    alloc: Global,
+    boundary: &[u8],
+    bytes: &[u8],
+) -> Result<Vec<ByteRange>, BatchRefused>
     ensures found { IfOk result (λ ranges. ranges_of boundary.now bytes.now ≡ Ok ranges.items) }
     ensures refused { IfErr result (Tells (ranges_of boundary.now bytes.now)) }
     ensures within { IfOk result (λ ranges. All (IsBelow (length bytes.now)) ranges.items) }

@@ -1,12 +1,11 @@
+//! The boundary that a Content-Type gives (RFC 2046, section 5.1.1; parameters as in RFC 9110, section 5.6.6).
 ghost use Rattle.std.specs.Prelude.{◌≡◌, ◌<◌, ◌∷◌, [], length, reverse, false, MatchOption, IfSome};
 ghost use Rattle.std.specs.List.{list_any};
 ghost use Rattle.std.specs.Option.{option_copied};
 ghost use Rattle.tab_batch.specs.Boundaries.{behind_word, turned, pieces, is_quote, is_boundary, before_quote, unquoted, boundary_of, boundary_parameter};
 
+use crate::LONGEST_BOUNDARY;
 use tab_http::trim_blanks;
-
-/// The most bytes that a boundary may have.
-const LONGEST_BOUNDARY: usize = 70;
 
 /// The boundary of a multipart body, if the value of its Content-Type gives one.
 #[tactic(auto, unfolding(crate::specs::Boundaries::boundary_of))]

@@ -1,3 +1,4 @@
+//! What follows from the definitions of a batch alone.
 ghost use Rattle.std.specs.Prelude.{◌≡◌, ℕ, List, Ok};
 ghost use Rattle.std.specs.List.{AllByRecursion};
 ghost use Rattle.tab_batch.specs.Parts.{requests_of};

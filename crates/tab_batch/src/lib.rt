@@ -1,4 +1,5 @@
-//! Multipart bodies of entity group transactions: the requests that a batch has, and the text of its reply.
+//! Multipart bodies of entity group transactions (RFC 2046, section 5.1; the Table service REST reference, "Performing Entity
+//! Group Transactions"): the requests that a batch has, and the text of its reply.
 #![tactic(auto)]
 
 mod batches;
@@ -18,3 +19,6 @@ pub use boundaries::boundary_of;
 pub use laws::{a_batch_has_one_answer, replies_are_read_again};
 pub use refusals::{BatchRefused, Memory};
 pub use replies::write_batch;
+
+/// The most bytes that a boundary may have (RFC 2046, section 5.1.1).
+pub const LONGEST_BOUNDARY: usize = 70;

@@ -1,3 +1,4 @@
+//! The lines of a body, with their offsets.
 ghost use Rattle.std.specs.Prelude.{◌≡◌, ◌+◌, ◌<◌, ◌≤◌, [], ◌∷◌, length, take, drop, MatchOption, IfSome};
 ghost use Rattle.tab_batch.specs.Lines.{without_end, cut_lines};
 ghost use Rattle.tab_batch.specs.Reading.{seen, lines_from};

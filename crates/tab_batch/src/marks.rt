@@ -1,3 +1,4 @@
+//! The lines that mark off the parts of a body (RFC 2046, section 5.1.1).
 ghost use Rattle.std.specs.Prelude.{◌≡◌};
 ghost use Rattle.std.specs.Option.{option_copied};
 ghost use Rattle.tab_batch.specs.Marks.{behind, is_blank, mark_of};

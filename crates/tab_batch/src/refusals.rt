@@ -1,5 +1,5 @@
+//! Why a batch is refused.
 ghost use Rattle.std.specs.Prelude.{◌≡◌};
-ghost use Rattle.tab_batch.specs.declared.refusals.BatchRefused.TheVariants.{Memory as NoMemory};
 
 use std::alloc::{AllocError, AllocFailed};
 
@@ -37,7 +37,9 @@ impl From<tab_outside::Memory> for Memory {
 }
 
 impl From<Memory> for BatchRefused {
-    ghost from_gives = { λ _ refused. refused ≡ NoMemory };
+    ghost use Rattle.tab_batch.specs.declared.refusals.BatchRefused.{BatchRefused};
+
+    ghost from_gives = { λ _ refused. refused ≡ BatchRefused.Memory };
 
     fn from(_memory: Memory) -> BatchRefused {
         BatchRefused::Memory

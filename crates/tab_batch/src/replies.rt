@@ -1,3 +1,4 @@
+//! The text of a batch's reply (RFC 2046, section 5.1.1).
 ghost use Rattle.std.specs.Prelude.{◌≡◌, map, vec_items, IfOk};
 ghost use Rattle.tab_batch.specs.Replies.{opening, part_head, ending, batch_text};
 

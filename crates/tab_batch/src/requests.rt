@@ -1,3 +1,4 @@
+//! The request that a part is (RFC 9112, sections 2 and 3; the URL Standard for absolute addresses).
 ghost use Rattle.std.specs.Prelude.{◌≡◌, ℕ, ◌++◌, List, drop, None, IfOk, MatchOption, string_bytes};
 ghost use Rattle.std.specs.Option.{option_copied};
 ghost use Rattle.httparse.specs.Grammar.{RequestHead};

@@ -1,13 +1,14 @@
+//! A change set, read line by line.
 ghost use Rattle.std.specs.Prelude.{◌≡◌, ℕ, ◌+◌, ◌≤◌, [], IfOk, IfErr, OnOk, Ok, All, length};
 ghost use Rattle.tab_batch.specs.Marks.{Blocks, add_line};
 ghost use Rattle.tab_batch.specs.Parts.{Found};
 ghost use Rattle.tab_batch.specs.Reading.{seen, Tells, from_state, behind_those, behind_ended, from_section, no_blocks, IsBelow, StateBelow, SectionBelow, state_behind};
 ghost use Rattle.tab_batch.specs.declared.sections.ChangeSetState.TheVariants.{Before};
 
+use crate::byte_ranges::ByteRange;
 use crate::lines::BodyLine;
 use crate::marks::Mark;
 use crate::refusals::{BatchRefused, Memory};
-use crate::byte_ranges::ByteRange;
 use std::alloc::Global;
 
 /// How far the reading of a change set has come.
@@ -34,6 +35,7 @@ pub struct Section {
 }
 
 impl Section {
+    /// One of which no line was read.
     pub fn new(alloc: Global) -> Section
         ensures state { result.state ≡ Before }
         ensures ranges { result.ranges.items ≡ [] }

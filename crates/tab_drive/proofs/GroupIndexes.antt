@@ -4,7 +4,8 @@ use Rattle.std.specs.Prelude.{IfErr, if◌then◌else◌, nat_lt, ⊤}
 use Rattle.tab_edm.specs.Entities.{EntityView, entity_size}
 use Rattle.tab_rows.specs.Rows.{RowView, row_at}
 use Rattle.tab_ops.specs.Groups.{ItemView, item_key}
-use Rattle.tab_ops.specs.Changes.{meets, within_limits, merge_outcome, on_condition, outcome_of, unless_refused, rows_after, settled, group_outcome, IsTimely, merged}
+use Rattle.tab_keys.specs.Results.{◌>>=◌}
+use Rattle.tab_ops.specs.Changes.{meets, within_limits, merge_outcome, on_condition, outcome_of, rows_after, settled, group_outcome, IsTimely, merged}
 use Rattle.tab_ops.specs.declared.ops.Match.{Match}
 use Rattle.tab_ops.specs.declared.ops.Op.{Op}
 use Rattle.tab_ops.specs.declared.ops.Op.TheVariants.{Insert, Update, Replace, Merge, MergeIn, Delete}
@@ -53,7 +54,7 @@ outcome_below index count (Some row) (Merge entity condition) below = condition_
 outcome_below index count (Some row) (MergeIn entity) below = merge_below index count row.entity entity below
 outcome_below index count (Some row) (Delete condition) below = condition_below index count condition row.tick (Ok None) below tt
 
-through : {A B : Type 0} (P : OpRefused → Type 0) (found : Result A OpRefused) (next : A → Result B OpRefused) → IfErr found P → ((a : A) → IfErr (next a) P) → IfErr (unless_refused found next) P
+through : {A B : Type 0} (P : OpRefused → Type 0) (found : Result A OpRefused) (next : A → Result B OpRefused) → IfErr found P → ((a : A) → IfErr (next a) P) → IfErr (found >>= next) P
 through P (Ok a) next holds later = later a
 through P (Err why) next holds later = holds
 

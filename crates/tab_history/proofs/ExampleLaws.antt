@@ -17,7 +17,7 @@ use Rattle.tab_ops.specs.Changes.{group_keys}
 use Rattle.tab_history.specs.World.{Named, IsWorld, table_of, floor_of, MayHaveTick}
 use Rattle.tab_history.specs.Legality.{after, after_all, table_for, AreBounds, Allows, Legal}
 use Rattle.tab_history.specs.Followed.{resolve_of, page_entry, entries_of, IsFollowed}
-use Rattle.tab_history.specs.declared.entries.Entry.TheVariants.{Bounds, Resolve, Change}
+use Rattle.tab_history.specs.declared.entries.Entry.TheVariants as entry
 use Rattle.tab_history.specs.Example.{cats, opening, row_of, insert_of_d, first, second, query}
 
 abbrev rows : List RowView
@@ -70,7 +70,7 @@ may_have = record {
   in_time = omega arith;
 }
 
-change : Allows (after (after (after opening (resolve_of first)) (page_entry first)) (Resolve 2 cats (Some 1))) (Change 2 7 1 (insert_of_d ∷ []) (Ok 7))
+change : Allows (after (after (after opening (resolve_of first)) (page_entry first)) (entry.Resolve 2 cats (Some 1))) (entry.Change 2 7 1 (insert_of_d ∷ []) (Ok 7))
 unfolding table_for row_at with_row key_cmp text_cmp units_of chars
 change = (refl, (row_of 97 0 ∷ row_of 98 1 ∷ row_of 99 2 ∷ row_of 100 7 ∷ [], refl), may_have)
 
@@ -84,7 +84,7 @@ split =
       All-cons P (At 0 []) (At 1 (98 ∷ []) ∷ []) refl (All-cons P (At 1 (98 ∷ [])) [] refl (All-nil P)),
     )
 
-second_page : Allows (after (after_all (after (after opening (resolve_of first)) (page_entry first)) (Resolve 2 cats (Some 1) ∷ Change 2 7 1 (insert_of_d ∷ []) (Ok 7) ∷ Bounds (At 0 [] ∷ At 1 (98 ∷ []) ∷ []) ∷ [])) (resolve_of second)) (page_entry second)
+second_page : Allows (after (after_all (after (after opening (resolve_of first)) (page_entry first)) (entry.Resolve 2 cats (Some 1) ∷ entry.Change 2 7 1 (insert_of_d ∷ []) (Ok 7) ∷ entry.Bounds (At 0 [] ∷ At 1 (98 ∷ []) ∷ []) ∷ [])) (resolve_of second)) (page_entry second)
 unfolding table_for page_of page_below page_up_to listed looked_at start_key row_at with_row key_cmp text_cmp units_of chars
 second_page = (refl, refl)
 
@@ -94,4 +94,4 @@ example_legal = (refl, (first_page, (refl, (change, (split, (refl, (second_page,
 
 pub example_followed : IsFollowed query
 unfolding folded
-example_followed = (record { name = refl; token = (99 ∷ [], []); next = refl; options = refl; idle = Resolve 2 cats (Some 1) ∷ Change 2 7 1 (insert_of_d ∷ []) (Ok 7) ∷ Bounds (At 0 [] ∷ At 1 (98 ∷ []) ∷ []) ∷ []; waiting = []; between = refl }, refl)
+example_followed = (record { name = refl; token = (99 ∷ [], []); next = refl; options = refl; idle = entry.Resolve 2 cats (Some 1) ∷ entry.Change 2 7 1 (insert_of_d ∷ []) (Ok 7) ∷ entry.Bounds (At 0 [] ∷ At 1 (98 ∷ []) ∷ []) ∷ []; waiting = []; between = refl }, refl)

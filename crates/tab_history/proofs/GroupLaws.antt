@@ -11,8 +11,10 @@ use Rattle.tab_rows.specs.Rows.{RowView, AreRising, row_at}
 use Rattle.tab_rows.proofs.RowLaws.{AreRising-with_row, AreRising-without_row, row_at-with_row_other, row_at-without_row_other, All-with_row, All-without_row}
 use Rattle.tab_page.proofs.RisingLists.{Contains-here, Contains-there}
 use Rattle.tab_ops.specs.Groups.{ItemView, item_key}
-use Rattle.tab_ops.specs.Changes.{outcome_of, settled, unless_refused, rows_after, group_outcome, group_keys}
+use Rattle.tab_keys.specs.Results.{◌>>=◌}
+use Rattle.tab_ops.specs.Changes.{outcome_of, settled, rows_after, group_outcome, group_keys}
 use Rattle.tab_ops.specs.declared.groups.OpRefused.{OpRefused}
+use Rattle.tab_ops.proofs.GroupLaws.{AreRising-settled}
 
 same_Ok : (x y : List RowView) (result : Result (List RowView) OpRefused) → result ≡ Ok x → result ≡ Ok y → x ≡ y
 same_Ok x y result h k = ap (λ other. result_unwrap_or other x) (sym h ∙ k)
@@ -31,18 +33,14 @@ rows_after-keep P table tick (item ∷ items) step index rows later h e =
   where
     by_outcome : ((between : List RowView) → P between → rows_after (index + 1) between table tick items ≡ Ok later → P later)
         → (outcome : Result (Option EntityView) OpRefused)
-        → unless_refused outcome (λ settles. rows_after (index + 1) (settled rows (item_key table item) tick settles) table tick items) ≡ Ok later → P later
+        → (outcome >>= λ settles. rows_after (index + 1) (settled rows (item_key table item) tick settles) table tick items) ≡ Ok later → P later
     by_outcome rest (Ok outcome) f = rest (settled rows (item_key table item) tick outcome) (step rows item outcome (Contains-here item items) h) f
     by_outcome rest (Err refusal) f = absurd (err_ok later refusal (Err refusal) refl f)
-
-settled-rising : (rows : List RowView) (key : Key) (tick : ℕ) (outcome : Option EntityView) → AreRising rows → AreRising (settled rows key tick outcome)
-settled-rising rows key tick (Some entity) h = AreRising-with_row rows (record { key = key; entity = entity; tick = tick }) h
-settled-rising rows key tick None h = AreRising-without_row rows key h
 
 -- the keys still rise after a group
 pub group-rising : (rows later : List RowView) (table tick : ℕ) (group : List ItemView) → AreRising rows → group_outcome rows table tick group ≡ Ok later → AreRising later
 group-rising rows later table tick group =
-    rows_after-keep AreRising table tick group (λ kept item outcome within h. settled-rising kept (item_key table item) tick outcome h) 0 rows later
+    rows_after-keep AreRising table tick group (λ kept item outcome within h. AreRising-settled kept (item_key table item) tick outcome h) 0 rows later
 
 pub settled-other : (rows : List RowView) (key other : Key) (tick : ℕ) (outcome : Option EntityView) → same_key key other ≡ false → row_at (settled rows key tick outcome) other ≡ row_at rows other
 settled-other rows key other tick (Some entity) apart = row_at-with_row_other rows (record { key = key; entity = entity; tick = tick }) other apart

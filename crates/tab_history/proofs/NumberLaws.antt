@@ -9,9 +9,9 @@ use Rattle.tab_history.specs.Legality.{State, accepted, acted, world_after, afte
 use Rattle.tab_history.specs.Kept.{HasTablesBelow}
 use Rattle.tab_history.specs.Numbers.{Makes, NumbersRise, IsNew, MadeNew, Drops, DropsHide}
 use Rattle.tab_history.specs.declared.entries.Entry.{Entry}
-use Rattle.tab_history.specs.declared.entries.Entry.TheVariants.{Resolve}
+use Rattle.tab_history.specs.declared.entries.Entry.TheVariants as entry
 use Rattle.tab_history.specs.declared.entries.Doubt.{Doubt}
-use Rattle.tab_history.specs.declared.entries.Doubt.TheVariants.{Change as Changed, Create as Created, Drop as Dropped}
+use Rattle.tab_history.specs.declared.entries.Doubt.TheVariants as doubt
 use Rattle.tab_history.proofs.NameLaws.{is_named, All-with_name}
 use Rattle.tab_history.proofs.HistoryLaws.{Acts, allowed_acts, kept, Legal-parts}
 use Rattle.tab_history.proofs.WorldLaws.{worlds_stay}
@@ -19,9 +19,9 @@ use Rattle.tab_history.proofs.WorldLaws.{worlds_stay}
 -- ---- the next number
 
 acted-next : (n : ℕ) (world : World) (operation : Doubt) → Acts world operation → n ≤ world.next_table → n ≤ (acted world operation).next_table
-acted-next n world (Changed table group tick) a h = h
-acted-next n world (Created name table) a h = let next : table ≡ world.next_table = a.1 in omega (arith, next, h)
-acted-next n world (Dropped name) a h = h
+acted-next n world (doubt.Change table group tick) a h = h
+acted-next n world (doubt.Create name table) a h = let next : table ≡ world.next_table = a.1 in omega (arith, next, h)
+acted-next n world (doubt.Drop name) a h = h
 
 -- the next number never falls
 next_after : (n : ℕ) (state : State) (entries : List Entry) → Legal state entries → n ≤ state.world.next_table → n ≤ (after_all state entries).world.next_table
@@ -30,9 +30,9 @@ next_after n = kept (λ world. n ≤ world.next_table) (acted-next n)
 -- a table is made with the next number, which is one more behind it
 made : (number : ℕ) (world : World) (operation : Option Doubt) → IfSome operation (Acts world) → IsSomeAnd operation (Makes number) → (number ≡ world.next_table) × ((world_after world operation).next_table ≡ number + 1)
 made number world None a makes = absurd makes
-made number world (Some (Changed table group tick)) a makes = absurd makes
-made number world (Some (Created name table)) a makes = (sym makes ∙ a.1, ap (λ n. n + 1) makes)
-made number world (Some (Dropped name)) a makes = absurd makes
+made number world (Some (doubt.Change table group tick)) a makes = absurd makes
+made number world (Some (doubt.Create name table)) a makes = (sym makes ∙ a.1, ap (λ n. n + 1) makes)
+made number world (Some (doubt.Drop name)) a makes = absurd makes
 
 pub numbers_rise : (opening : State) (history : List Entry) → Legal opening history → NumbersRise history
 numbers_rise opening history legal before between later first second number next e makes again =
@@ -71,14 +71,14 @@ IsLater n name world = (n ≤ world.next_table) × All (λ named. is_named name 
 
 acted-later : (n : ℕ) (name : List ℕ) (world : World) (operation : Doubt) → Acts world operation → IsLater n name world → IsLater n name (acted world operation)
 unfolding without_name
-acted-later n name world (Changed table group tick) a h = h
-acted-later n name world (Created own table) a h =
+acted-later n name world (doubt.Change table group tick) a h = h
+acted-later n name world (doubt.Create own table) a h =
     let next : table ≡ world.next_table = a.1 in
     let low : n ≤ world.next_table = h.0 in (
       omega (arith, next, low),
       All-with_name (λ named. is_named name named ≡ true → n ≤ named.table) world.names (record { spelling = own; table = table }) h.1 (λ same. omega (arith, next, low)),
     )
-acted-later n name world (Dropped own) a h =
+acted-later n name world (doubt.Drop own) a h =
     (h.0, All-filter (λ named. not (is_named own named)) (λ named. is_named name named ≡ true → n ≤ named.table) world.names h.1)
 
 not_both : (t : Bool) → not t ≡ true → t ≡ true → ⊥
@@ -89,9 +89,9 @@ not_both false h k = true≢false (sym k)
 dropped-later : (name : List ℕ) (world : World) (operation : Option Doubt) → IsSomeAnd operation (Drops name) → IsLater world.next_table name (world_after world operation)
 unfolding without_name
 dropped-later name world None drops = absurd drops
-dropped-later name world (Some (Changed table group tick)) drops = absurd drops
-dropped-later name world (Some (Created own table)) drops = absurd drops
-dropped-later name world (Some (Dropped own)) drops = (
+dropped-later name world (Some (doubt.Change table group tick)) drops = absurd drops
+dropped-later name world (Some (doubt.Create own table)) drops = absurd drops
+dropped-later name world (Some (doubt.Drop own)) drops = (
   omega arith,
   All-weaker (λ named. not (is_named own named) ≡ true) (λ named. is_named name named ≡ true → world.next_table ≤ named.table)
       (λ named left same. absurd (not_both (is_named own named) left (ap (λ folds. bytes_eq (folded named.spelling) folds) drops ∙ same)))
@@ -117,9 +117,9 @@ all_new world (Some number) h low = is_new world number h low
 
 pub drops_hide : (opening : State) (history : List Entry) → IsWorld opening.world → HasTablesBelow opening → Legal opening history → DropsHide opening history
 drops_hide opening history world told legal before between later drop ask name again table e drops folds =
-    let outer = Legal-parts opening before (drop ∷ (between ++ (Resolve ask again table ∷ later))) (subst (Legal opening) e legal) in
+    let outer = Legal-parts opening before (drop ∷ (between ++ (entry.Resolve ask again table ∷ later))) (subst (Legal opening) e legal) in
     let state = after_all opening before in
-    let inner = Legal-parts (after state drop) between (Resolve ask again table ∷ later) outer.1.1 in
+    let inner = Legal-parts (after state drop) between (entry.Resolve ask again table ∷ later) outer.1.1 in
     let reached = after_all (after state drop) between in
     let n = state.world.next_table in
     let is_later = kept (IsLater n name) (acted-later n name) (after state drop) between inner.0 (dropped-later name state.world (accepted drop) drops) in

@@ -15,7 +15,8 @@ use Rattle.tab_rows.specs.Rows.{RowView, row_at, with_row, without_row}
 use Rattle.tab_rows.proofs.RowLaws.{same_key_itself, row_at-with_row, row_at-without_row}
 use Rattle.tab_page.proofs.RisingLists.{All-from_each, Contains-cons_cases}
 use Rattle.tab_ops.specs.Groups.{ItemView, item_key}
-use Rattle.tab_ops.specs.Changes.{outcome_of, settled, unless_refused, rows_after, group_keys}
+use Rattle.tab_keys.specs.Results.{◌>>=◌}
+use Rattle.tab_ops.specs.Changes.{outcome_of, settled, rows_after, group_keys}
 use Rattle.tab_ops.specs.declared.groups.OpRefused.{OpRefused}
 use Rattle.tab_history.specs.World.{World, Floors, IsWorld, floor_of, raised}
 use Rattle.tab_history.specs.Legality.{State, accepted, acted, world_after, after, after_all, Legal}
@@ -23,7 +24,7 @@ use Rattle.tab_history.specs.Followed.{Spares, IsUnchanged}
 use Rattle.tab_history.specs.Ticks.{Changes, TicksRise, TicksTellRows}
 use Rattle.tab_history.specs.declared.entries.Entry.{Entry}
 use Rattle.tab_history.specs.declared.entries.Doubt.{Doubt}
-use Rattle.tab_history.specs.declared.entries.Doubt.TheVariants.{Change as Changed, Create as Created, Drop as Dropped}
+use Rattle.tab_history.specs.declared.entries.Doubt.TheVariants as doubt
 use Rattle.tab_history.proofs.GroupLaws.{rows_after-keep, group-all, settled-other, err_ok}
 use Rattle.tab_history.proofs.FollowedLaws.{row_at-found}
 use Rattle.tab_history.proofs.HistoryLaws.{Acts, allowed_acts, kept, after_all-append, Legal-parts, unchanged_after}
@@ -102,7 +103,7 @@ floor_of-raised_all floors (first ∷ keys) tick key = by_test (floor_of-raised_
     by_test ih false = ih
 
 acted-floor : (key : Key) (n : ℕ) (world : World) (operation : Doubt) → Acts world operation → n ≤ floor_of world.floors key → n ≤ floor_of (acted world operation).floors key
-acted-floor key n world (Changed table group tick) a h = subst (λ floor. n ≤ floor) (sym (floor_of-raised_all world.floors (group_keys table group) tick key)) (by_test (changed_by key (group_keys table group)) refl)
+acted-floor key n world (doubt.Change table group tick) a h = subst (λ floor. n ≤ floor) (sym (floor_of-raised_all world.floors (group_keys table group) tick key)) (by_test (changed_by key (group_keys table group)) refl)
   where
     low : changed_by key (group_keys table group) ≡ true → floor_of world.floors key ≤ tick
     low e = any_holds (λ other. floor_of world.floors other ≤ tick) key (λ other same k. subst (λ floor. floor ≤ tick) (floor_of-alike world.floors other key same) k) (group_keys table group) a.1 e
@@ -110,8 +111,8 @@ acted-floor key n world (Changed table group tick) a h = subst (λ floor. n ≤ 
     by_test : (t : Bool) → changed_by key (group_keys table group) ≡ t → n ≤ cond t (tick + 1) (floor_of world.floors key)
     by_test true e = let below : floor_of world.floors key ≤ tick = low e in omega arith
     by_test false e = h
-acted-floor key n world (Created name table) a h = h
-acted-floor key n world (Dropped name) a h = h
+acted-floor key n world (doubt.Create name table) a h = h
+acted-floor key n world (doubt.Drop name) a h = h
 
 -- no floor falls
 pub floor_after : (key : Key) (state : State) (entries : List Entry) → Legal state entries → floor_of state.world.floors key ≤ floor_of (after_all state entries).world.floors key
@@ -119,13 +120,13 @@ floor_after key state entries legal = kept (λ world. floor_of state.world.floor
 
 -- an accepted change has a tick from the key's floor on, and puts the floor past it
 changed-floor : (key : Key) (tick : ℕ) (world : World) (operation : Doubt) → Acts world operation → Changes key tick operation → (floor_of world.floors key ≤ tick) × (floor_of (acted world operation).floors key ≡ tick + 1)
-changed-floor key tick world (Changed table group own) a changes = (
+changed-floor key tick world (doubt.Change table group own) a changes = (
   subst (λ n. floor_of world.floors key ≤ n) changes.0
       (any_holds (λ other. floor_of world.floors other ≤ own) key (λ other same k. subst (λ floor. floor ≤ own) (floor_of-alike world.floors other key same) k) (group_keys table group) a.1 changes.1),
   floor_of-raised_all world.floors (group_keys table group) own key ∙ (ap (λ t. cond t (own + 1) (floor_of world.floors key)) changes.1 ∙ ap (λ n. n + 1) changes.0),
 )
-changed-floor key tick world (Created name table) a changes = absurd changes
-changed-floor key tick world (Dropped name) a changes = absurd changes
+changed-floor key tick world (doubt.Create name table) a changes = absurd changes
+changed-floor key tick world (doubt.Drop name) a changes = absurd changes
 
 entry-floor : (key : Key) (tick : ℕ) (world : World) (operation : Option Doubt) → IfSome operation (Acts world) → IsSomeAnd operation (Changes key tick) → (floor_of world.floors key ≤ tick) × (floor_of (world_after world operation).floors key ≡ tick + 1)
 entry-floor key tick world None a changes = absurd changes
@@ -146,13 +147,13 @@ ticks_rise opening history legal before between later first second key tick next
 
 -- each row's tick is below its key's floor
 pub acted-below : (world : World) (operation : Doubt) → Acts world operation → All (λ row. row.tick < floor_of world.floors row.key) world.rows → All (λ row. row.tick < floor_of (acted world operation).floors row.key) (acted world operation).rows
-acted-below world (Changed table group tick) a h =
+acted-below world (doubt.Change table group tick) a h =
     subst (λ result. All below (result_unwrap_or result world.rows)) (sym a.0.1)
     (group-all below world.rows a.0.0 table tick group
     (All-from_each (λ key. (entity : EntityView) → below (record { key = key; entity = entity; tick = tick })) (group_keys table group)
     (λ key within entity. put key (any_contains (group_keys table group) key within)))
     (All-weaker (λ row. row.tick < floor_of world.floors row.key) below
-    (λ row k. old row.key row.tick (acted-floor row.key (row.tick + 1) world (Changed table group tick) a) k)
+    (λ row k. old row.key row.tick (acted-floor row.key (row.tick + 1) world (doubt.Change table group tick) a) k)
     world.rows h)
     a.0.1)
   where
@@ -165,8 +166,8 @@ acted-below world (Changed table group tick) a h =
 
     old : (key : Key) (n : ℕ) → (n + 1 ≤ floor_of world.floors key → n + 1 ≤ floor_of (raised world.floors (group_keys table group) tick) key) → n < floor_of world.floors key → n < floor_of (raised world.floors (group_keys table group) tick) key
     old key n rises k = let risen : n + 1 ≤ floor_of (raised world.floors (group_keys table group) tick) key = rises (omega arith) in omega arith
-acted-below world (Created name table) a h = h
-acted-below world (Dropped name) a h = h
+acted-below world (doubt.Create name table) a h = h
+acted-below world (doubt.Drop name) a h = h
 
 pub ticks_below_after : (state : State) (entries : List Entry) → Legal state entries → All (λ row. row.tick < floor_of state.world.floors row.key) state.world.rows → All (λ row. row.tick < floor_of (after_all state entries).world.floors row.key) (after_all state entries).world.rows
 ticks_below_after = kept (λ world. All (λ row. row.tick < floor_of world.floors row.key) world.rows) acted-below
@@ -207,7 +208,7 @@ group-tick key table tick (item ∷ items) index rows later changes e =
 
     by_outcome : ((between : List RowView) → changed_by key (group_keys table items) ≡ true → rows_after (index + 1) between table tick items ≡ Ok later → HasTick key tick later)
         → (outcome : Result (Option EntityView) OpRefused)
-        → unless_refused outcome (λ settles. rows_after (index + 1) (settled rows own tick settles) table tick items) ≡ Ok later → HasTick key tick later
+        → (outcome >>= λ settles. rows_after (index + 1) (settled rows own tick settles) table tick items) ≡ Ok later → HasTick key tick later
     by_outcome rest (Ok outcome) f = by_test (settled rows own tick outcome) outcome refl (λ k. rest (settled rows own tick outcome) k f) f (same_key own key) refl
     by_outcome rest (Err refusal) f = absurd (err_ok later refusal (Err refusal) refl f)
 
@@ -215,16 +216,16 @@ group-tick key table tick (item ∷ items) index rows later changes e =
 operation_tells : (key : Key) (world : World) (operation : Option Doubt) → IfSome operation (Acts world)
     → IfSome operation (Spares key) ⊎ ((row : RowView) → row_at (world_after world operation).rows key ≡ Some row → floor_of world.floors key ≤ row.tick)
 operation_tells key world None a = inl tt
-operation_tells key world (Some (Created name table)) a = inl tt
-operation_tells key world (Some (Dropped name)) a = inl tt
-operation_tells key world (Some (Changed table group tick)) a = by_test (changed_by key (group_keys table group)) refl
+operation_tells key world (Some (doubt.Create name table)) a = inl tt
+operation_tells key world (Some (doubt.Drop name)) a = inl tt
+operation_tells key world (Some (doubt.Change table group tick)) a = by_test (changed_by key (group_keys table group)) refl
   where
     by_test : (t : Bool) → changed_by key (group_keys table group) ≡ t
-        → Spares key (Changed table group tick) ⊎ ((row : RowView) → row_at (acted world (Changed table group tick)).rows key ≡ Some row → floor_of world.floors key ≤ row.tick)
+        → Spares key (doubt.Change table group tick) ⊎ ((row : RowView) → row_at (acted world (doubt.Change table group tick)).rows key ≡ Some row → floor_of world.floors key ≤ row.tick)
     by_test true e = inr
         (λ row h.
         let own : row.tick ≡ tick = group-tick key table tick group 0 world.rows a.0.0 e a.0.1 row (subst (λ result. row_at (result_unwrap_or result world.rows) key ≡ Some row) a.0.1 h) in
-        let from : floor_of world.floors key ≤ tick = (changed-floor key tick world (Changed table group tick) a (refl, e)).0 in
+        let from : floor_of world.floors key ≤ tick = (changed-floor key tick world (doubt.Change table group tick) a (refl, e)).0 in
         omega (arith, own, from))
     by_test false e = inl (none_of_them (group_keys table group) key e)
 

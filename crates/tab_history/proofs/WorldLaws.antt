@@ -16,8 +16,8 @@ use Rattle.tab_history.specs.World.{World, Named, IsWorld, table_of, without_nam
 use Rattle.tab_history.specs.Legality.{State, acted, after, after_all, table_for, Allows, Legal}
 use Rattle.tab_history.specs.Kept.{HasTablesBelow}
 use Rattle.tab_history.specs.declared.entries.Entry.{Entry}
-use Rattle.tab_history.specs.declared.entries.Entry.TheVariants.{Bounds, Resolve, Get, Page, Change, Create, Drop, List as Listing, Denied}
-use Rattle.tab_history.specs.declared.entries.Doubt.TheVariants.{Change as Changed, Create as Created, Drop as Dropped}
+use Rattle.tab_history.specs.declared.entries.Entry.TheVariants as entry
+use Rattle.tab_history.specs.declared.entries.Doubt.TheVariants as doubt
 use Rattle.tab_history.proofs.GroupLaws.{group-all}
 use Rattle.tab_history.proofs.NameLaws.{Below, is_named, All-with_name, AllPairs-with_name, rising-with_name}
 use Rattle.tab_history.proofs.HistoryLaws.{Acts, allowed_acts, acted-rising}
@@ -46,16 +46,16 @@ told_below next (first ∷ tables) ask table h e = by_test (λ k. told_below nex
     by_test rest false k = rest k
 
 -- a change of rows of one of the tables keeps a world
-change_keeps : (world : World) (table tick : ℕ) (group : List ItemView) → Acts world (Changed table group tick) → table < world.next_table → IsWorld world → IsWorld (acted world (Changed table group tick))
+change_keeps : (world : World) (table tick : ℕ) (group : List ItemView) → Acts world (doubt.Change table group tick) → table < world.next_table → IsWorld world → IsWorld (acted world (doubt.Change table group tick))
 change_keeps world table tick group a below h = record {
   names_rise = h.names_rise;
   numbers_differ = h.numbers_differ;
   names_below = h.names_below;
-  rows_rise = acted-rising world (Changed table group tick) a h.rows_rise;
+  rows_rise = acted-rising world (doubt.Change table group tick) a h.rows_rise;
   rows_below =
       let P = λ (row : RowView). row.key.table < world.next_table in
       subst (λ result. All P (result_unwrap_or result world.rows)) (sym a.0.1) (group-all P world.rows a.0.0 table tick group (keys_below group) h.rows_below a.0.1);
-  ticks_below = acted-below world (Changed table group tick) a h.ticks_below;
+  ticks_below = acted-below world (doubt.Change table group tick) a h.ticks_below;
 }
   where
     keys_below : (items : List ItemView) → All (λ key. (entity : EntityView) → key.table < world.next_table) (map (item_key table) items)
@@ -76,7 +76,7 @@ apart a b differ = by_test (a == b) refl
     by_test false e = e
 
 -- a table with the next number keeps a world
-create_keeps : (world : World) (name : List ℕ) (table : ℕ) → Acts world (Created name table) → IsWorld world → IsWorld (acted world (Created name table))
+create_keeps : (world : World) (name : List ℕ) (table : ℕ) → Acts world (doubt.Create name table) → IsWorld world → IsWorld (acted world (doubt.Create name table))
 create_keeps world name table a h = record {
   names_rise = rising-with_name world.names named a.0 h.names_rise;
   numbers_differ =
@@ -107,7 +107,7 @@ create_keeps world name table a h = record {
     still_below other k = omega (arith, next, k)
 
 -- so does a table that is dropped
-drop_keeps : (world : World) (name : List ℕ) → IsWorld world → IsWorld (acted world (Dropped name))
+drop_keeps : (world : World) (name : List ℕ) → IsWorld world → IsWorld (acted world (doubt.Drop name))
 unfolding without_name
 drop_keeps world name h = record {
   names_rise = AllPairs-filter Below (λ named. not (is_named name named)) world.names h.names_rise;
@@ -128,37 +128,37 @@ told_stays tables next later rises h = All-weaker (λ (last : ℕ × Option ℕ)
 
 -- ---- entries
 
-create_stays : (state : State) (ask : ℕ) (name : List ℕ) (result : Option ℕ) → Allows state (Create ask name result) → IsWorld state.world → HasTablesBelow state
-    → IsWorld (after state (Create ask name result)).world × HasTablesBelow (after state (Create ask name result))
+create_stays : (state : State) (ask : ℕ) (name : List ℕ) (result : Option ℕ) → Allows state (entry.Create ask name result) → IsWorld state.world → HasTablesBelow state
+    → IsWorld (after state (entry.Create ask name result)).world × HasTablesBelow (after state (entry.Create ask name result))
 create_stays state ask name (Some table) allowed world told =
     (create_keeps state.world name table allowed world, told_stays state.tables state.world.next_table (table + 1) (let next : table ≡ state.world.next_table = allowed.1 in omega (arith, next)) told)
 create_stays state ask name None allowed world told = (world, told)
 
 drop_stays : (state : State) (ask : ℕ) (name : List ℕ) (stood : Bool) → IsWorld state.world → HasTablesBelow state
-    → IsWorld (after state (Drop ask name stood)).world × HasTablesBelow (after state (Drop ask name stood))
+    → IsWorld (after state (entry.Drop ask name stood)).world × HasTablesBelow (after state (entry.Drop ask name stood))
 drop_stays state ask name true world told = (drop_keeps state.world name world, told)
 drop_stays state ask name false world told = (world, told)
 
-change_stays : (state : State) (ask now table : ℕ) (group : List ItemView) (result : Result ℕ OpRefused) → Allows state (Change ask now table group result) → IsWorld state.world → HasTablesBelow state
-    → IsWorld (after state (Change ask now table group result)).world × HasTablesBelow (after state (Change ask now table group result))
+change_stays : (state : State) (ask now table : ℕ) (group : List ItemView) (result : Result ℕ OpRefused) → Allows state (entry.Change ask now table group result) → IsWorld state.world → HasTablesBelow state
+    → IsWorld (after state (entry.Change ask now table group result)).world × HasTablesBelow (after state (entry.Change ask now table group result))
 change_stays state ask now table group (Ok tick) allowed world told =
-    (change_keeps state.world table tick group (allowed_acts state (Change ask now table group (Ok tick)) allowed) (told_below state.world.next_table state.tables ask table told allowed.0) world, told)
+    (change_keeps state.world table tick group (allowed_acts state (entry.Change ask now table group (Ok tick)) allowed) (told_below state.world.next_table state.tables ask table told allowed.0) world, told)
 change_stays state ask now table group (Err refusal) allowed world told = (world, told)
 
 stays : (state : State) (entry : Entry) → Allows state entry → IsWorld state.world → HasTablesBelow state → IsWorld (after state entry).world × HasTablesBelow (after state entry)
-stays state (Bounds bounds) allowed world told = (world, told)
-stays state (Resolve ask name table) allowed world told = (
+stays state (entry.Bounds bounds) allowed world told = (world, told)
+stays state (entry.Resolve ask name table) allowed world told = (
   world,
   All-cons (λ (last : ℕ × Option ℕ). IfSome last.1 (λ number. number < state.world.next_table)) (ask, table) state.tables
       (subst (λ (found : Option ℕ). IfSome found (λ number. number < state.world.next_table)) (sym allowed) (named_below state.world.next_table state.world.names name world.names_below)) told,
 )
-stays state (Get ask table pk rk found) allowed world told = (world, told)
-stays state (Page ask table options page) allowed world told = (world, told)
-stays state (Change ask now table group result) allowed world told = change_stays state ask now table group result allowed world told
-stays state (Create ask name result) allowed world told = create_stays state ask name result allowed world told
-stays state (Drop ask name stood) allowed world told = drop_stays state ask name stood world told
-stays state (Listing ask from top names next) allowed world told = (world, told)
-stays state (Denied ask why) allowed world told = (world, told)
+stays state (entry.Get ask table pk rk found) allowed world told = (world, told)
+stays state (entry.Page ask table options page) allowed world told = (world, told)
+stays state (entry.Change ask now table group result) allowed world told = change_stays state ask now table group result allowed world told
+stays state (entry.Create ask name result) allowed world told = create_stays state ask name result allowed world told
+stays state (entry.Drop ask name stood) allowed world told = drop_stays state ask name stood world told
+stays state (entry.List ask from top names next) allowed world told = (world, told)
+stays state (entry.Denied ask why) allowed world told = (world, told)
 
 pub worlds_stay : (opening : State) (history : List Entry) → IsWorld opening.world → HasTablesBelow opening → Legal opening history → IsWorld (after_all opening history).world × HasTablesBelow (after_all opening history)
 worlds_stay opening [] world told legal = (world, told)

@@ -9,7 +9,7 @@ use Rattle.tab_ops.specs.declared.ops.Op.TheVariants.{Insert}
 use Rattle.tab_history.specs.Legality.{State}
 use Rattle.tab_history.specs.Followed.{Asked, Query, resolve_of}
 use Rattle.tab_history.specs.declared.entries.Entry.{Entry}
-use Rattle.tab_history.specs.declared.entries.Entry.TheVariants.{Bounds, Resolve, Change}
+use Rattle.tab_history.specs.declared.entries.Entry.TheVariants as entry
 
 -- the names `Cats` and `cats`
 abbrev pub cats : List ℕ
@@ -69,7 +69,7 @@ second = record {
 }
 
 abbrev pub meanwhile : List Entry
-meanwhile = Resolve 2 cats (Some 1) ∷ Change 2 7 1 (insert_of_d ∷ []) (Ok 7) ∷ Bounds (At 0 [] ∷ At 1 (98 ∷ []) ∷ []) ∷ []
+meanwhile = entry.Resolve 2 cats (Some 1) ∷ entry.Change 2 7 1 (insert_of_d ∷ []) (Ok 7) ∷ entry.Bounds (At 0 [] ∷ At 1 (98 ∷ []) ∷ []) ∷ []
 
 abbrev pub query : Query
 query = record { waiting = []; first = first; legs = record { between = meanwhile ++ resolve_of second ∷ []; asked = second } ∷ [] }

@@ -14,9 +14,9 @@ use Rattle.tab_page.specs.declared.pages.Page.{Page}
 use Rattle.tab_ops.specs.Changes.{group_keys}
 use Rattle.tab_history.specs.Legality.{State, accepted, after, after_all}
 use Rattle.tab_history.specs.declared.entries.Entry.{Entry}
-use Rattle.tab_history.specs.declared.entries.Entry.TheVariants.{Resolve, Page as Paged}
+use Rattle.tab_history.specs.declared.entries.Entry.TheVariants as entry
 use Rattle.tab_history.specs.declared.entries.Doubt.{Doubt}
-use Rattle.tab_history.specs.declared.entries.Doubt.TheVariants.{Change as Changed, Create as Created, Drop as Dropped}
+use Rattle.tab_history.specs.declared.entries.Doubt.TheVariants as doubt
 
 -- ---- a followed query and its entries
 
@@ -30,11 +30,11 @@ pub record Asked : Type 0 where
 
 -- the look-up of its table's name
 abbrev pub resolve_of : Asked → Entry
-resolve_of asked = Resolve asked.ask asked.name (Some asked.table)
+resolve_of asked = entry.Resolve asked.ask asked.name (Some asked.table)
 
 -- and the page itself
 abbrev pub page_entry : Asked → Entry
-page_entry asked = Paged asked.ask asked.table asked.options asked.page
+page_entry asked = entry.Page asked.ask asked.table asked.options asked.page
 
 -- a later page, with all entries since the page before it
 pub record Leg : Type 0 where
@@ -92,9 +92,9 @@ at_first state query = after_all state (resolve_of query.first ∷ query.waiting
 
 -- an operation leaves the row of a key as it is
 abbrev pub Spares : Key → Doubt → Type 0
-Spares key (Changed table group tick) = All (λ other. same_key other key ≡ false) (group_keys table group)
-Spares key (Created name table) = ⊤
-Spares key (Dropped name) = ⊤
+Spares key (doubt.Change table group tick) = All (λ other. same_key other key ≡ false) (group_keys table group)
+Spares key (doubt.Create name table) = ⊤
+Spares key (doubt.Drop name) = ⊤
 
 -- no accepted operation changes the row of the key
 abbrev pub IsUnchanged : Key → List Entry → Type 0
@@ -102,9 +102,9 @@ IsUnchanged key entries = AllByRecursion (λ entry. IfSome (accepted entry) (Spa
 
 -- an operation leaves a key under a table's name as it is: the row stays, and so does the name
 abbrev pub Leaves : Key → List ℕ → Doubt → Type 0
-Leaves key name (Changed table group tick) = Spares key (Changed table group tick)
-Leaves key name (Created own table) = bytes_eq (folded own) (folded name) ≡ false
-Leaves key name (Dropped own) = bytes_eq (folded own) (folded name) ≡ false
+Leaves key name (doubt.Change table group tick) = Spares key (doubt.Change table group tick)
+Leaves key name (doubt.Create own table) = bytes_eq (folded own) (folded name) ≡ false
+Leaves key name (doubt.Drop own) = bytes_eq (folded own) (folded name) ≡ false
 
 -- no accepted operation writes the key under the table's name
 abbrev pub IsUnwritten : Key → List ℕ → List Entry → Type 0

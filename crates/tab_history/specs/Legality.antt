@@ -9,11 +9,11 @@ use Rattle.tab_history.specs.World.{World, table_of, with_name, without_name, na
 use Rattle.tab_ops.specs.Changes.{group_outcome, group_keys}
 use Rattle.tab_page.specs.Pages.{page_of}
 use Rattle.tab_history.specs.declared.entries.Entry.{Entry}
-use Rattle.tab_history.specs.declared.entries.Entry.TheVariants.{Bounds, Resolve, Get, Page, Change, Create, Drop, List as Listing, Denied}
-use Rattle.tab_history.specs.declared.entries.Denied.{Denied as Why}
-use Rattle.tab_history.specs.declared.entries.Denied.TheVariants.{NoTable, TableThere, NotFound, Op, TimeSpent, IdsSpent, Memory}
+use Rattle.tab_history.specs.declared.entries.Entry.TheVariants as entry
+use Rattle.tab_history.specs.declared.entries.Denied.{Denied}
+use Rattle.tab_history.specs.declared.entries.Denied.TheVariants as denied
 use Rattle.tab_history.specs.declared.entries.Doubt.{Doubt}
-use Rattle.tab_history.specs.declared.entries.Doubt.TheVariants.{Change as Changed, Create as Created, Drop as Dropped}
+use Rattle.tab_history.specs.declared.entries.Doubt.TheVariants as doubt
 
 -- what a history has come to: the world, the bounds in force, the table that each request's last look-up gave, the
 -- last one first, and the operations of which it is open whether they stand
@@ -29,25 +29,25 @@ table_for tables ask = option_and_then (λ last. last.1) (find (λ last. last.0 
 
 -- the operation that an entry says was accepted
 abbrev pub accepted : Entry → Option Doubt
-accepted (Bounds bounds) = None
-accepted (Resolve ask name table) = None
-accepted (Get ask table pk rk found) = None
-accepted (Page ask table options page) = None
-accepted (Change ask now table group (Ok tick)) = Some (Changed table group tick)
-accepted (Change ask now table group (Err refusal)) = None
-accepted (Create ask name (Some table)) = Some (Created name table)
-accepted (Create ask name None) = None
-accepted (Drop ask name true) = Some (Dropped name)
-accepted (Drop ask name false) = None
-accepted (Listing ask from top names next) = None
-accepted (Denied ask why) = None
+accepted (entry.Bounds bounds) = None
+accepted (entry.Resolve ask name table) = None
+accepted (entry.Get ask table pk rk found) = None
+accepted (entry.Page ask table options page) = None
+accepted (entry.Change ask now table group (Ok tick)) = Some (doubt.Change table group tick)
+accepted (entry.Change ask now table group (Err refusal)) = None
+accepted (entry.Create ask name (Some table)) = Some (doubt.Create name table)
+accepted (entry.Create ask name None) = None
+accepted (entry.Drop ask name true) = Some (doubt.Drop name)
+accepted (entry.Drop ask name false) = None
+accepted (entry.List ask from top names next) = None
+accepted (entry.Denied ask why) = None
 
 -- the world after an operation
 abbrev pub acted : World → Doubt → World
-acted world (Changed table group tick) =
+acted world (doubt.Change table group tick) =
     record world { rows = result_unwrap_or (group_outcome world.rows table tick group) world.rows; floors = raised world.floors (group_keys table group) tick }
-acted world (Created name table) = record world { names = with_name world.names (record { spelling = name; table = table }); next_table = table + 1 }
-acted world (Dropped name) = record world { names = without_name world.names name }
+acted world (doubt.Create name table) = record world { names = with_name world.names (record { spelling = name; table = table }); next_table = table + 1 }
+acted world (doubt.Drop name) = record world { names = without_name world.names name }
 
 -- the world after an entry
 abbrev pub world_after : World → Option Doubt → World
@@ -55,26 +55,26 @@ world_after world None = world
 world_after world (Some operation) = acted world operation
 
 abbrev pub bounds_after : List Bound → Entry → List Bound
-bounds_after bounds (Bounds later) = later
-bounds_after bounds (Resolve ask name table) = bounds
-bounds_after bounds (Get ask table pk rk found) = bounds
-bounds_after bounds (Page ask table options page) = bounds
-bounds_after bounds (Change ask now table group result) = bounds
-bounds_after bounds (Create ask name result) = bounds
-bounds_after bounds (Drop ask name stood) = bounds
-bounds_after bounds (Listing ask from top names next) = bounds
-bounds_after bounds (Denied ask why) = bounds
+bounds_after bounds (entry.Bounds later) = later
+bounds_after bounds (entry.Resolve ask name table) = bounds
+bounds_after bounds (entry.Get ask table pk rk found) = bounds
+bounds_after bounds (entry.Page ask table options page) = bounds
+bounds_after bounds (entry.Change ask now table group result) = bounds
+bounds_after bounds (entry.Create ask name result) = bounds
+bounds_after bounds (entry.Drop ask name stood) = bounds
+bounds_after bounds (entry.List ask from top names next) = bounds
+bounds_after bounds (entry.Denied ask why) = bounds
 
 abbrev pub tables_after : List (ℕ × Option ℕ) → Entry → List (ℕ × Option ℕ)
-tables_after tables (Resolve ask name table) = (ask, table) ∷ tables
-tables_after tables (Bounds later) = tables
-tables_after tables (Get ask table pk rk found) = tables
-tables_after tables (Page ask table options page) = tables
-tables_after tables (Change ask now table group result) = tables
-tables_after tables (Create ask name result) = tables
-tables_after tables (Drop ask name stood) = tables
-tables_after tables (Listing ask from top names next) = tables
-tables_after tables (Denied ask why) = tables
+tables_after tables (entry.Resolve ask name table) = (ask, table) ∷ tables
+tables_after tables (entry.Bounds later) = tables
+tables_after tables (entry.Get ask table pk rk found) = tables
+tables_after tables (entry.Page ask table options page) = tables
+tables_after tables (entry.Change ask now table group result) = tables
+tables_after tables (entry.Create ask name result) = tables
+tables_after tables (entry.Drop ask name stood) = tables
+tables_after tables (entry.List ask from top names next) = tables
+tables_after tables (entry.Denied ask why) = tables
 
 -- what a history has come to after one more entry
 abbrev pub after : State → Entry → State
@@ -96,35 +96,35 @@ AreBounds (bound ∷ bounds) =
     (bound ≡ At 0 []) × AllPairs (λ a b. IsTrue (bound_lt a b)) (bound ∷ bounds) × All (λ b. IsTrue (bound_lt b End)) (bound ∷ bounds)
 
 -- the reasons for which a request may be denied whatever the world is
-abbrev pub IsDenial : Why → Type 0
-IsDenial TimeSpent = ⊤
-IsDenial IdsSpent = ⊤
-IsDenial Memory = ⊤
-IsDenial NoTable = ⊥
-IsDenial TableThere = ⊥
-IsDenial NotFound = ⊥
-IsDenial (Op refusal) = ⊥
+abbrev pub IsDenial : Denied → Type 0
+IsDenial denied.TimeSpent = ⊤
+IsDenial denied.IdsSpent = ⊤
+IsDenial denied.Memory = ⊤
+IsDenial denied.NoTable = ⊥
+IsDenial denied.TableThere = ⊥
+IsDenial denied.NotFound = ⊥
+IsDenial (denied.Op refusal) = ⊥
 
 -- an entry that a history may go on with
 abbrev pub Allows : State → Entry → Type 0
-Allows state (Bounds bounds) = AreBounds bounds
-Allows state (Resolve ask name table) = table ≡ table_of state.world.names name
-Allows state (Get ask table pk rk found) =
+Allows state (entry.Bounds bounds) = AreBounds bounds
+Allows state (entry.Resolve ask name table) = table ≡ table_of state.world.names name
+Allows state (entry.Get ask table pk rk found) =
     (table_for state.tables ask ≡ Some table) × (found ≡ row_at state.world.rows (record { table = table; pk = pk; rk = rk }))
-Allows state (Page ask table options page) =
+Allows state (entry.Page ask table options page) =
     (table_for state.tables ask ≡ Some table) × (page ≡ page_of state.world.rows state.bounds table options)
-Allows state (Change ask now table group (Ok tick)) =
+Allows state (entry.Change ask now table group (Ok tick)) =
     (table_for state.tables ask ≡ Some table)
     × ((rows : List RowView) × (group_outcome state.world.rows table tick group ≡ Ok rows))
     × MayHaveTick state.world.floors (group_keys table group) now tick
-Allows state (Change ask now table group (Err refusal)) =
+Allows state (entry.Change ask now table group (Err refusal)) =
     (table_for state.tables ask ≡ Some table) × (group_outcome state.world.rows table 0 group ≡ Err refusal)
-Allows state (Create ask name (Some table)) = (table_of state.world.names name ≡ None) × (table ≡ state.world.next_table)
-Allows state (Create ask name None) = is_some (table_of state.world.names name) ≡ true
-Allows state (Drop ask name stood) = stood ≡ is_some (table_of state.world.names name)
-Allows state (Listing ask from top names next) =
+Allows state (entry.Create ask name (Some table)) = (table_of state.world.names name ≡ None) × (table ≡ state.world.next_table)
+Allows state (entry.Create ask name None) = is_some (table_of state.world.names name) ≡ true
+Allows state (entry.Drop ask name stood) = stood ≡ is_some (table_of state.world.names name)
+Allows state (entry.List ask from top names next) =
     (names ≡ take top (names_from state.world.names from)) × (next ≡ slice_get (names_from state.world.names from) top)
-Allows state (Denied ask why) = IsDenial why
+Allows state (entry.Denied ask why) = IsDenial why
 
 -- each entry of a history is one that the world may go on with
 abbrev pub Legal : State → List Entry → Type 0

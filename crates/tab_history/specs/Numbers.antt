@@ -4,15 +4,15 @@ use Rattle.tab_keys.specs.TableNames.{folded}
 use Rattle.tab_history.specs.World.{World}
 use Rattle.tab_history.specs.Legality.{State, accepted, after_all}
 use Rattle.tab_history.specs.declared.entries.Entry.{Entry}
-use Rattle.tab_history.specs.declared.entries.Entry.TheVariants.{Resolve}
+use Rattle.tab_history.specs.declared.entries.Entry.TheVariants as entry
 use Rattle.tab_history.specs.declared.entries.Doubt.{Doubt}
-use Rattle.tab_history.specs.declared.entries.Doubt.TheVariants.{Change as Changed, Create as Created, Drop as Dropped}
+use Rattle.tab_history.specs.declared.entries.Doubt.TheVariants as doubt
 
 -- the operation makes a table of this number
 abbrev pub Makes : ℕ → Doubt → Type 0
-Makes number (Changed table group tick) = ⊥
-Makes number (Created name table) = table ≡ number
-Makes number (Dropped name) = ⊥
+Makes number (doubt.Change table group tick) = ⊥
+Makes number (doubt.Create name table) = table ≡ number
+Makes number (doubt.Drop name) = ⊥
 
 -- of two tables that were made the later has the greater number
 abbrev pub NumbersRise : List Entry → Type 0
@@ -22,9 +22,9 @@ NumbersRise history =
 
 -- the operation drops the table of the name
 abbrev pub Drops : List ℕ → Doubt → Type 0
-Drops name (Changed table group tick) = ⊥
-Drops name (Created own table) = ⊥
-Drops name (Dropped own) = folded own ≡ folded name
+Drops name (doubt.Change table group tick) = ⊥
+Drops name (doubt.Create own table) = ⊥
+Drops name (doubt.Drop own) = folded own ≡ folded name
 
 -- a number that was not given so far, so that no table has it and no row
 pub record IsNew (world : World) (number : ℕ) : Type 0 where
@@ -42,5 +42,5 @@ MadeNew opening history =
 abbrev pub DropsHide : State → List Entry → Type 0
 DropsHide opening history =
     (before between later : List Entry) (drop : Entry) (ask : ℕ) (name again : List ℕ) (table : Option ℕ)
-    → history ≡ before ++ (drop ∷ (between ++ (Resolve ask again table ∷ later))) → IsSomeAnd (accepted drop) (Drops name) → folded again ≡ folded name
+    → history ≡ before ++ (drop ∷ (between ++ (entry.Resolve ask again table ∷ later))) → IsSomeAnd (accepted drop) (Drops name) → folded again ≡ folded name
     → IfSome table (IsNew (after_all opening before).world)

@@ -7,7 +7,7 @@ use Rattle.tab_ops.specs.declared.ops.Op.TheVariants.{Insert}
 use Rattle.tab_history.specs.World.{Named}
 use Rattle.tab_history.specs.Legality.{State}
 use Rattle.tab_history.specs.declared.entries.Entry.{Entry}
-use Rattle.tab_history.specs.declared.entries.Entry.TheVariants.{Resolve, Get, Change, Create, Drop, List as Listing}
+use Rattle.tab_history.specs.declared.entries.Entry.TheVariants as entry
 
 -- the names `Dogs`, `dogs` and `ants`
 abbrev pub dogs : List ℕ
@@ -41,22 +41,22 @@ row_of_p = record {
 
 -- two tables are made, and none beside one of the same name
 abbrev pub making : List Entry
-making = Create 1 dogs (Some 1) ∷ Create 2 ants (Some 2) ∷ Create 3 lower_dogs None ∷ []
+making = entry.Create 1 dogs (Some 1) ∷ entry.Create 2 ants (Some 2) ∷ entry.Create 3 lower_dogs None ∷ []
 
 -- the names come in their order, a page at a time
 abbrev pub listing : List Entry
-listing = Listing 4 None 1 (ants ∷ []) (Some dogs) ∷ Listing 5 (Some lower_dogs) 1 (dogs ∷ []) None ∷ []
+listing = entry.List 4 None 1 (ants ∷ []) (Some dogs) ∷ entry.List 5 (Some lower_dogs) 1 (dogs ∷ []) None ∷ []
 
 abbrev pub filling : List Entry
-filling = Resolve 6 lower_dogs (Some 1) ∷ Change 6 7 1 (insert_of_p ∷ []) (Ok 7) ∷ []
+filling = entry.Resolve 6 lower_dogs (Some 1) ∷ entry.Change 6 7 1 (insert_of_p ∷ []) (Ok 7) ∷ []
 
 -- the table is dropped once, and found no more
 abbrev pub dropping : List Entry
-dropping = Drop 7 lower_dogs true ∷ Drop 8 dogs false ∷ Resolve 9 dogs None ∷ []
+dropping = entry.Drop 7 lower_dogs true ∷ entry.Drop 8 dogs false ∷ entry.Resolve 9 dogs None ∷ []
 
 -- another of that name is empty
 abbrev pub making_again : List Entry
-making_again = Create 10 lower_dogs (Some 3) ∷ Resolve 11 dogs (Some 3) ∷ Get 11 3 (112 ∷ []) [] None ∷ []
+making_again = entry.Create 10 lower_dogs (Some 3) ∷ entry.Resolve 11 dogs (Some 3) ∷ entry.Get 11 3 (112 ∷ []) [] None ∷ []
 
 -- the names at the end
 abbrev pub left : List Named

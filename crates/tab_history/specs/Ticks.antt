@@ -9,13 +9,13 @@ use Rattle.tab_history.specs.Legality.{State, accepted, after_all}
 use Rattle.tab_history.specs.Followed.{IsUnchanged}
 use Rattle.tab_history.specs.declared.entries.Entry.{Entry}
 use Rattle.tab_history.specs.declared.entries.Doubt.{Doubt}
-use Rattle.tab_history.specs.declared.entries.Doubt.TheVariants.{Change as Changed, Create as Created, Drop as Dropped}
+use Rattle.tab_history.specs.declared.entries.Doubt.TheVariants as doubt
 
 -- the operation changes the row of the key, with this tick
 abbrev pub Changes : Key → ℕ → Doubt → Type 0
-Changes key tick (Changed table group own) = (own ≡ tick) × IsTrue (list_any (λ other. same_key other key) (group_keys table group))
-Changes key tick (Created name table) = ⊥
-Changes key tick (Dropped name) = ⊥
+Changes key tick (doubt.Change table group own) = (own ≡ tick) × IsTrue (list_any (λ other. same_key other key) (group_keys table group))
+Changes key tick (doubt.Create name table) = ⊥
+Changes key tick (doubt.Drop name) = ⊥
 
 -- of two accepted changes of one key the later has the greater tick
 abbrev pub TicksRise : List Entry → Type 0

@@ -1,3 +1,4 @@
+//! What passes between the service and the store: what a request asks, and what the store answers.
 use crate::{Denied, TableNames};
 use tab_keys::{KeyText, TableName};
 use tab_ops::Group;

@@ -1,3 +1,4 @@
+//! The entries of a history: what the store did, one step after another.
 ghost use Rattle.std.specs.Prelude.{◌≡◌, [], ◌∷◌, ◌++◌, OnOk, OnErr};
 
 use crate::TableNames;
@@ -141,6 +142,7 @@ impl Bounds {
         Bounds { bounds }
     }
 
+    /// The bounds, lent.
     pub fn as_slice(&self) -> &[Bound]
         ensures { result.now ≡ self.now }
     {
@@ -149,12 +151,14 @@ impl Bounds {
 }
 
 impl History {
+    /// The entries, in the memory that they have.
     pub fn new(entries: Vec<Entry>) -> History
         ensures { result ≡ entries.items }
     {
         History { entries }
     }
 
+    /// The entries, lent.
     pub fn as_slice(&self) -> &[Entry]
         ensures { result.now ≡ self.now }
     {

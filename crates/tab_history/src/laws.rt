@@ -1,3 +1,4 @@
+//! What legal histories give: laws over the definitions alone.
 ghost use Rattle.std.specs.Prelude.{◌≡◌, List, ◌∷◌, ◌++◌, []};
 ghost use Rattle.tab_history.specs.World.{IsWorld};
 ghost use Rattle.tab_history.specs.Legality.{State, Legal, after_all};

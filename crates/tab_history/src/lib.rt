@@ -2,13 +2,13 @@
 //! histories are legal, and the values that pass between the layers.
 #![tactic(auto)]
 
-mod entries;
 mod asks;
+mod entries;
 mod laws;
 mod table_names;
 
-pub use entries::{Bounds, Denied, Doubt, Entry, History};
 pub use asks::{Ask, Reply};
+pub use entries::{Bounds, Denied, Doubt, Entry, History};
 pub use laws::{
     a_followed_query, drops_hide, followed_queries, made_tables_are_new, still_queries,
     table_numbers_rise, tables_that_come_and_go, ticks_rise, ticks_tell_rows, worlds_stay,

@@ -1,3 +1,4 @@
+//! Lists of names of tables, as they are answered.
 ghost use Rattle.std.specs.Prelude.{◌≡◌, length, IfOk};
 
 use std::alloc::Global;
@@ -19,18 +20,21 @@ impl Model for TableNames {
 }
 
 impl TableNames {
+    /// The names, in the memory that they have.
     pub fn new(names: Vec<TableName>) -> TableNames
         ensures { result ≡ names.items }
     {
         TableNames { names }
     }
 
+    /// The names, lent.
     pub fn as_slice(&self) -> &[TableName]
         ensures { result.now ≡ self.now }
     {
         self.names.as_slice()
     }
 
+    /// How many there are.
     pub fn len(&self) -> usize
         ensures { result ≡ length self.now }
     {
@@ -44,14 +48,13 @@ impl TableNames {
         self.names
     }
 
+    /// A copy, or that no memory was found for it.
     pub fn try_copy(&self, alloc: Global) -> Result<TableNames, Memory>
         ensures { IfOk result (λ copy. copy ≡ self.now) }
     {
         let mut names = Vec::new(alloc);
         for name in &self.names {
-            if names.push(name.try_copy(alloc)?).is_err() {
-                return Err(Memory);
-            }
+            names.push(name.try_copy(alloc)?)?;
         }
         Ok(TableNames { names })
     }

@@ -2,7 +2,6 @@ pub mod ObjectLemmas
 pub mod Floatless
 pub mod Options
 pub mod Numbers
-pub mod Moments
 pub mod Names
 pub mod Json
 pub mod Readings

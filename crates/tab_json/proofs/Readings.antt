@@ -17,7 +17,7 @@ use Rattle.tab_edm.specs.Entities.{name_lt, IsRising}
 use Rattle.tab_edm.specs.Values.{is_reserved}
 use Rattle.tab_edm.specs.declared.values.Value.{Value}
 use Rattle.tab_edm.specs.declared.values.Property.{Property}
-use Rattle.tab_json.specs.Bodies.{is_ignored, annotated_by, is_null, is_given, type_in, text_of, value_of, key_by, property_by, meaning_by, meaning_of, mapped, before, meanings, unless_one_refused, with_meaning, no_entity, entity_in}
+use Rattle.tab_json.specs.Bodies.{is_ignored, annotated_by, is_null, is_given, type_in, text_of, value_of, key_by, property_by, meaning_by, meaning_of, mapped, before, meanings, all_or_refusal, with_meaning, no_entity, entity_in}
 use Rattle.tab_json.specs.declared.members_read.Meaning.{Meaning}
 use Rattle.tab_json.specs.declared.bodies.BodyEntity.{BodyEntity}
 use Rattle.tab_json.specs.declared.bodies.JsonRefused.{JsonRefused}
@@ -26,14 +26,14 @@ use Rattle.tab_json.specs.declared.bodies.JsonRefused.{JsonRefused}
 
 -- what an entity so far and the members that are left give
 pub entity_after : Data → BodyEntity → Members → Result BodyEntity JsonRefused
-entity_after body entity left = mapped (fold with_meaning entity) (unless_one_refused (meanings body left))
+entity_after body entity left = mapped (fold with_meaning entity) (all_or_refusal (meanings body left))
 
 pub at_first : (body : Data) (ms : Members) → entity_in body ms ≡ entity_after body no_entity ms
 unfolding entity_in entity_after
 at_first body ms = refl
 
 pub at_last : (body : Data) (entity : BodyEntity) → entity_after body entity no_members ≡ Ok entity
-unfolding entity_after meanings unless_one_refused
+unfolding entity_after meanings all_or_refusal
 at_last body entity = refl
 
 with_first : (entity : BodyEntity) (meaning : Meaning) (later : Result (List Meaning) JsonRefused) → mapped (fold with_meaning entity) (mapped (λ more. meaning ∷ more) later) ≡ mapped (fold with_meaning (with_meaning entity meaning)) later
@@ -43,18 +43,18 @@ with_first entity meaning (Err why) = refl
 -- one more member means something
 pub one_more : (body : Data) (entity next : BodyEntity) (name : List ℕ) (value : Data) (later : Members) (meaning : Meaning) → meaning_of body name value ≡ Ok meaning → next ≡ with_meaning entity meaning
     → entity_after body entity (member name value later) ≡ entity_after body next later
-unfolding entity_after meanings unless_one_refused
+unfolding entity_after meanings all_or_refusal
 one_more body entity next name value later meaning means is =
-    ap (λ (first : Result Meaning JsonRefused). mapped (fold with_meaning entity) (before first (unless_one_refused (meanings body later)))) means
-    ∙ with_first entity meaning (unless_one_refused (meanings body later))
-    ∙ ap (λ (e : BodyEntity). mapped (fold with_meaning e) (unless_one_refused (meanings body later))) (sym is)
+    ap (λ (first : Result Meaning JsonRefused). mapped (fold with_meaning entity) (before first (all_or_refusal (meanings body later)))) means
+    ∙ with_first entity meaning (all_or_refusal (meanings body later))
+    ∙ ap (λ (e : BodyEntity). mapped (fold with_meaning e) (all_or_refusal (meanings body later))) (sym is)
 
 -- one more member is refused
 pub one_refused : (body : Data) (entity : BodyEntity) (name : List ℕ) (value : Data) (later : Members) (why : JsonRefused) → meaning_of body name value ≡ Err why
     → entity_after body entity (member name value later) ≡ Err why
-unfolding entity_after meanings unless_one_refused
+unfolding entity_after meanings all_or_refusal
 one_refused body entity name value later why refused =
-    ap (λ (first : Result Meaning JsonRefused). mapped (fold with_meaning entity) (before first (unless_one_refused (meanings body later)))) refused
+    ap (λ (first : Result Meaning JsonRefused). mapped (fold with_meaning entity) (before first (all_or_refusal (meanings body later)))) refused
 
 -- ---- the properties
 
@@ -142,13 +142,13 @@ first_means (Ok meaning) (Ok more) all e = record { meaning = meaning; more = mo
 first_means (Ok meaning) (Err why) all e = absurd (cc)
 first_means (Err why) later all e = absurd (cc)
 
-member_means : (body : Data) (name : List ℕ) (value : Data) (later : Members) (all : List Meaning) → unless_one_refused (meanings body (member name value later)) ≡ Ok all
-    → FirstMeans (meaning_of body name value) (unless_one_refused (meanings body later)) all
-unfolding meanings unless_one_refused
+member_means : (body : Data) (name : List ℕ) (value : Data) (later : Members) (all : List Meaning) → all_or_refusal (meanings body (member name value later)) ≡ Ok all
+    → FirstMeans (meaning_of body name value) (all_or_refusal (meanings body later)) all
+unfolding meanings all_or_refusal
 member_means body name value later all e = first_means _ _ all e
 
-no_meanings : (body : Data) (all : List Meaning) → unless_one_refused (meanings body no_members) ≡ Ok all → all ≡ []
-unfolding meanings unless_one_refused
+no_meanings : (body : Data) (all : List Meaning) → all_or_refusal (meanings body no_members) ≡ Ok all → all ≡ []
+unfolding meanings all_or_refusal
 no_meanings body all e = cc
 
 -- what holds of the names of all members holds of the names of the properties
@@ -163,7 +163,7 @@ one_of P body name value (Meaning.RowKey key) rest means holds later = later
 one_of P body name value (Meaning.Property property) rest means holds later =
     let is = named body name value property means in All-cons (IsOf P) property rest (rw (is.0) (holds, is.1)) later
 
-all_of : (P : List ℕ → Type 0) (body : Data) (es : Entries) (all : List Meaning) → unless_one_refused (meanings body (members_view es)) ≡ Ok all → AllByRecursion (λ key. P (string_bytes key)) (keys_of es) → All (IsOf P) (properties_of all)
+all_of : (P : List ℕ → Type 0) (body : Data) (es : Entries) (all : List Meaning) → all_or_refusal (meanings body (members_view es)) ≡ Ok all → AllByRecursion (λ key. P (string_bytes key)) (keys_of es) → All (IsOf P) (properties_of all)
 unfolding properties_of
 all_of P body [] all e holds = rw (no_meanings body all e) (All-nil (IsOf P))
 all_of P body (entry ∷ es) all e holds =
@@ -186,7 +186,7 @@ one_rises body name value (Meaning.Property property) rest means later rising =
     let is = named body name value property means in
     AllPairs-cons (λ a b. IsTrue (name_lt a b)) property rest (λ k d within. rw (is.0) ((later k d within).0)) rising
 
-all_rise : (body : Data) (es : Entries) (all : List Meaning) → unless_one_refused (meanings body (members_view es)) ≡ Ok all → IsStrictlySortedBy string_cmp (keys_of es) → IsRising (properties_of all)
+all_rise : (body : Data) (es : Entries) (all : List Meaning) → all_or_refusal (meanings body (members_view es)) ≡ Ok all → IsStrictlySortedBy string_cmp (keys_of es) → IsRising (properties_of all)
 unfolding properties_of IsStrictlySortedBy
 all_rise body [] all e sorted = rw (no_meanings body all e) (λ i j d lt within. absurd (omega arith))
 all_rise body (entry ∷ es) all e sorted =

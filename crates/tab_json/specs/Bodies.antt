@@ -85,14 +85,15 @@ abbrev pub mapped : {A B : Type 0} → (A → B) → Result A JsonRefused → Re
 mapped f (Ok x) = Ok (f x)
 mapped f (Err why) = Err why
 
-abbrev pub unless_refused : List ℕ → Option KeyRefused → Result (List ℕ) JsonRefused
-unless_refused text None = Ok text
-unless_refused text (Some why) = Err (Key why)
+-- the text of a key, or the refusal of one
+abbrev pub key_or_refusal : List ℕ → Option KeyRefused → Result (List ℕ) JsonRefused
+key_or_refusal text None = Ok text
+key_or_refusal text (Some why) = Err (Key why)
 
 -- a key, or the refusal of the member of this name whose value this text is
 abbrev pub key_by : List ℕ → Option (List ℕ) → Result (List ℕ) JsonRefused
 key_by name None = Err (ValueType name)
-key_by name (Some text) = unless_refused text (key_refusal text)
+key_by name (Some text) = key_or_refusal text (key_refusal text)
 
 -- a property, or the refusal of the member of this name with this value
 abbrev pub property_by : List ℕ → Option Value → Result Meaning JsonRefused
@@ -142,9 +143,9 @@ before (Err why) later = Err why
 before (Ok meaning) later = mapped (λ more. meaning ∷ more) later
 
 -- all meanings, or the first refusal among them
-unfoldable pub unless_one_refused : List (Result Meaning JsonRefused) → Result (List Meaning) JsonRefused
-unless_one_refused [] = Ok []
-unless_one_refused (first ∷ later) = before first (unless_one_refused later)
+unfoldable pub all_or_refusal : List (Result Meaning JsonRefused) → Result (List Meaning) JsonRefused
+all_or_refusal [] = Ok []
+all_or_refusal (first ∷ later) = before first (all_or_refusal later)
 
 -- an entity with what one more member means
 abbrev pub with_meaning : BodyEntity → Meaning → BodyEntity
@@ -159,7 +160,7 @@ no_entity = record { pk = None; rk = None; properties = [] }
 
 -- the entity that members give, or the first refusal among them in byte order of their names
 unfoldable pub entity_in : Data → Members → Result BodyEntity JsonRefused
-entity_in body ms = mapped (fold with_meaning no_entity) (unless_one_refused (meanings body ms))
+entity_in body ms = mapped (fold with_meaning no_entity) (all_or_refusal (meanings body ms))
 
 -- the text of a table's name
 unfoldable pub table_in : Members → Result (List ℕ) JsonRefused

@@ -1,14 +1,13 @@
 -- The values that JSON values stand for, by the types of OData.
 use Rattle.std.specs.Prelude.{ℕ, ◌+◌, ◌-◌, ◌*◌, ◌^◌, ℤ, pos, negsuc, List, ◌++◌, length, take, drop, Bool, ◌&&◌, nat_lt, nat_le, if◌then◌else◌, Option, Some, None, option_map, option_and_then, codes, bytes_eq}
 use Rattle.std.specs.Fmt.{signed_decimal}
-use Rattle.std.specs.Str.Parse.{digits_value, signed_digits_value}
+use Rattle.std.specs.Str.Parse.{signed_digits_value}
 use Rattle.serde_json.specs.Data.{Data, null, boolean, number, string, array, object}
 use Rattle.serde_json.specs.Find.{as_str, as_bool, as_number, as_i64}
 use Rattle.base64.specs.Engines.{standard}
 use Rattle.base64.specs.GeneralPurpose.{decoded_of}
 use Rattle.uuid.specs.Text.{parsed}
-use Rattle.jiff_core.specs.Calendar.{days_in_month}
-use Rattle.tab_edm.specs.Moments.{CivilDate, days_before, text_of_date, text_of_time, text_of_fraction}
+use Rattle.tab_edm.specs.Moments.{moment_of}
 use Rattle.tab_edm.specs.declared.values.Value.{Value}
 use Rattle.tab_edm.specs.declared.values.Value.TheVariants.{Text, Flag, Int32, Int64, Moment, Guid, Bytes}
 use Rattle.tab_json.specs.declared.types.EdmType.{EdmType}
@@ -52,49 +51,6 @@ unfoldable pub int64_of : List ℕ → Option ℤ
 int64_of text =
     let z = signed_digits_value 10 text in
     if bytes_eq (signed_decimal z) text && fits_64_bits z then Some z else None
-
--- the parts of a moment
-pub record MomentParts : Type 0 where
-  pub date : CivilDate
-  pub hour : ℕ
-  pub minute : ℕ
-  pub second : ℕ
-  pub count : ℕ
-  pub fraction : ℕ
-
-abbrev pub number_at : List ℕ → ℕ → ℕ → ℕ
-number_at text at count = digits_value 10 (take count (drop at text))
-
--- the numbers that stand at their offsets in `YYYY-MM-DDTHH:MM:SS.fffffffZ`, with as many digits of a fraction as there are
-abbrev pub parts_in : List ℕ → MomentParts
-parts_in text = record {
-  date = record { year = number_at text 0 4; month = number_at text 5 2; day = number_at text 8 2 };
-  hour = number_at text 11 2;
-  minute = number_at text 14 2;
-  second = number_at text 17 2;
-  count = length text - 21;
-  fraction = number_at text 20 (length text - 21);
-}
-
-abbrev pub text_of_parts : MomentParts → List ℕ
-text_of_parts p =
-    text_of_date p.date ++ codes "T" ++ text_of_time (codes ":") p.hour p.minute p.second ++ text_of_fraction p.count p.fraction
-
-abbrev pub is_real_date : CivilDate → Bool
-is_real_date d =
-    nat_le 1601 d.year && nat_le d.year 9999 && nat_le 1 d.month && nat_le d.month 12 && nat_le 1 d.day && nat_le d.day (days_in_month (pos d.year) d.month)
-
-abbrev pub are_real_parts : MomentParts → Bool
-are_real_parts p =
-    is_real_date p.date && nat_le p.hour 23 && nat_le p.minute 59 && nat_le p.second 59 && nat_le p.count 7 && nat_lt p.fraction (10 ^ p.count)
-
-abbrev pub tick_of_parts : MomentParts → ℕ
-tick_of_parts p = (((days_before p.date * 24 + p.hour) * 60 + p.minute) * 60 + p.second) * 10_000_000 + p.fraction * 10 ^ (7 - p.count)
-
--- the tick of the moment whose text this is
-unfoldable pub moment_of : List ℕ → Option ℕ
-moment_of text =
-    if are_real_parts (parts_in text) && bytes_eq (text_of_parts (parts_in text)) text then Some (tick_of_parts (parts_in text)) else None
 
 -- the value of this type that a JSON value stands for: flags and numbers of 32 bits are JSON's own, and a text stands for
 -- each other value

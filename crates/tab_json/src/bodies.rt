@@ -1,6 +1,8 @@
+//! The JSON bodies of requests (RFC 8259): an entity, or the name of a table.
 ghost use Rattle.std.specs.Prelude.{◌≡◌, ◌≢◌, MatchResult, Ok, Err, OnOk, Some, None, option_map, option_and_then, All, AllPairs, IsFalse, codes, string_bytes};
 ghost use Rattle.serde_json.specs.Find.{as_str};
 ghost use Rattle.serde_json.specs.View.{view, members_view};
+ghost use Rattle.tab_keys.specs.Results.{Gives};
 ghost use Rattle.tab_edm.specs.Entities.{IsRising};
 ghost use Rattle.tab_edm.specs.Values.{is_reserved, IsInTime};
 ghost use Rattle.tab_json.specs.Bodies.{json_in, no_entity, with_meaning, IsTimely, entity_in, entity_body, table_body};
@@ -15,7 +17,7 @@ use tab_keys::{KeyRefused, KeyText};
 /// Why a body gives no entity or no table.
 #[derive(Debug, Drop)]
 pub enum JsonRefused {
-    /// It is no JSON, or nests deeper than 127 objects and arrays.
+    /// It is no JSON, or nests deeper than the 127 objects and arrays that `serde_json` takes.
     NotJson,
     /// It is JSON, but no object.
     NotObject,
@@ -30,8 +32,11 @@ pub enum JsonRefused {
 /// What a body gives of an entity.
 #[derive(Debug, Drop)]
 pub struct BodyEntity {
+    /// The partition key, where the body has one.
     pub pk: Option<KeyText>,
+    /// The row key, where the body has one.
     pub rk: Option<KeyText>,
+    /// The other members that stand for a value.
     pub properties: Properties,
 }
 
@@ -72,9 +77,7 @@ impl Properties {
 /// The entity that a body gives.
 #[tactic(auto, unfolding(crate::specs::Bodies::entity_body))]
 pub fn read_entity(alloc: Global, bytes: &[u8]) -> Result<BodyEntity, JsonRefused>
-    ensures { MatchResult result
-        (λ body. entity_body bytes.now ≡ Ok body)
-        (λ why. why ≢ JsonRefused.Memory → entity_body bytes.now ≡ Err why) }
+    ensures { Gives JsonRefused.Memory (λ body. body) result (entity_body bytes.now) }
 {
     match read_json(alloc, bytes) {
         Ok(body) => match body.as_object() {
@@ -88,9 +91,7 @@ pub fn read_entity(alloc: Global, bytes: &[u8]) -> Result<BodyEntity, JsonRefuse
 /// The text of the table's name that a body gives.
 #[tactic(auto, unfolding(crate::specs::Bodies::table_body, crate::specs::Bodies::table_in))]
 pub fn read_table(alloc: Global, bytes: &[u8]) -> Result<String, JsonRefused>
-    ensures { MatchResult result
-        (λ text. table_body bytes.now ≡ Ok (string_bytes text))
-        (λ why. why ≢ JsonRefused.Memory → table_body bytes.now ≡ Err why) }
+    ensures { Gives JsonRefused.Memory string_bytes result (table_body bytes.now) }
 {
     match read_json(alloc, bytes) {
         Ok(body) if body.is_object() => read_name(alloc, body.get("TableName")),
@@ -132,9 +133,7 @@ fn read_members(
     body: &Json,
     members: &Map<String, Json>,
 ) -> Result<BodyEntity, JsonRefused>
-    ensures { MatchResult result
-        (λ entity. entity_in (view body.now) (members_view members.now.entries) ≡ Ok entity)
-        (λ why. why ≢ JsonRefused.Memory → entity_in (view body.now) (members_view members.now.entries) ≡ Err why) }
+    ensures { Gives JsonRefused.Memory (λ entity. entity) result (entity_in (view body.now) (members_view members.now.entries)) }
 {
     let mut reading = Reading::new(alloc);
     for (name, value) in members {

@@ -1,3 +1,4 @@
+//! The texts of entities and of pages (OData 3.0, JSON Format, "Representing an Entity" and "Representing a Feed").
 ghost use Rattle.std.specs.Prelude.{◌≡◌, ◌≤◌, IfOk, map, string_bytes};
 ghost use Rattle.serde_json.specs.View.{view};
 ghost use Rattle.tab_json.specs.Entities.{version_of, entity_members, entity_data, page_data, entity_json, page_json};
@@ -7,7 +8,7 @@ use crate::members_written::{entity_members, put_metadata};
 use serde_json::{Map, Value as Json, push, put};
 use std::alloc::Global;
 use std::marker::Model;
-use tab_edm::{Entity, GREATEST, Memory as OutOfMemory};
+use tab_edm::{Entity, GREATEST};
 use tab_keys::{KeyText, Memory, TableName};
 use tab_page::{Page, Select};
 use tab_rows::Row;
@@ -15,7 +16,9 @@ use tab_rows::Row;
 /// How entities are written: with minimal metadata or with none, and which of their properties.
 #[derive(Debug, Drop)]
 pub struct JsonForm {
+    /// With minimal metadata: the address, the ETag and the annotations of types (`odata=minimalmetadata`).
     pub minimal: bool,
+    /// The properties that are written.
     pub select: Select,
 }
 
@@ -42,7 +45,8 @@ pub fn write_version(
 ) -> Result<String, Memory>
     ensures { IfOk result (λ text. string_bytes text ≡ entity_json account.now name.now form.now version.now) }
 {
-    entity_text(alloc, account, name.as_str(), version, form).map_err(|_| Memory)
+    let value = entity_value(alloc, account, name.as_str(), version, form)?;
+    Ok(value.to_string(alloc)?)
 }
 
 /// The entities of a page. Where the next page begins is no part of the text.
@@ -55,7 +59,9 @@ pub fn write_page(
 ) -> Result<String, Memory>
     ensures { IfOk result (λ text. string_bytes text ≡ page_json account.now name.now form.now page.now.rows) }
 {
-    page_text(alloc, account, name.as_str(), page.rows.as_slice(), form).map_err(|_| Memory)
+    let rows = page.rows.as_slice();
+    let value = page_value(alloc, account, name.as_str(), rows, form)?;
+    Ok(value.to_string(alloc)?)
 }
 
 /// What a client sees of a row: an entity with its keys and the tick of the change that wrote it.
@@ -85,6 +91,7 @@ impl<'a> Model for Version<'a> {
 }
 
 impl<'a> Version<'a> {
+    /// An entity that a change with this tick wrote at these keys.
     pub fn new(pk: &'a KeyText, rk: &'a KeyText, entity: &'a Entity, tick: u64) -> Version<'a>
         requires { tick ≤ GREATEST }
         ensures { result ≡ record { pk = pk.now; rk = rk.now; properties = entity.now.properties; tick = tick } }
@@ -97,44 +104,20 @@ impl<'a> Version<'a> {
         }
     }
 
+    /// What a client sees of a kept row.
     pub fn of(row: &'a Row) -> Version<'a>
         ensures { result ≡ version_of row.now }
     {
         Version::new(&row.key.pk, &row.key.rk, &row.entity, row.tick)
     }
 
+    /// The tick of the change that wrote it.
     pub fn tick(&self) -> u64
         ensures tick { result ≡ self.now.tick }
         ensures in_time { result ≤ GREATEST }
     {
         self.tick
     }
-}
-
-fn entity_text(
-    alloc: Global,
-    account: &str,
-    name: &str,
-    version: &Version,
-    form: &JsonForm,
-) -> Result<String, OutOfMemory>
-    ensures { IfOk result (λ text. string_bytes text ≡ entity_json account.now name.now form.now version.now) }
-{
-    let value = entity_value(alloc, account, name, version, form)?;
-    Ok(value.to_string(alloc)?)
-}
-
-fn page_text(
-    alloc: Global,
-    account: &str,
-    name: &str,
-    rows: &[Row],
-    form: &JsonForm,
-) -> Result<String, OutOfMemory>
-    ensures { IfOk result (λ text. string_bytes text ≡ page_json account.now name.now form.now rows.now) }
-{
-    let value = page_value(alloc, account, name, rows, form)?;
-    Ok(value.to_string(alloc)?)
 }
 
 #[tactic(auto, unfolding(crate::specs::Entities::entity_data))]
@@ -144,7 +127,7 @@ fn entity_value(
     name: &str,
     version: &Version,
     form: &JsonForm,
-) -> Result<Json, OutOfMemory>
+) -> Result<Json, Memory>
     ensures { IfOk result (λ value. view value ≡ entity_data account.now name.now form.now version.now) }
 {
     let mut members = entity_members(alloc, version, form)?;
@@ -159,7 +142,7 @@ fn page_value(
     name: &str,
     rows: &[Row],
     form: &JsonForm,
-) -> Result<Json, OutOfMemory>
+) -> Result<Json, Memory>
     ensures { IfOk result (λ value. view value ≡ page_data account.now name.now form.now rows.now) }
 {
     let mut members = Map::new(alloc);
@@ -170,7 +153,7 @@ fn page_value(
 }
 
 #[tactic(auto, unfolding(crate::specs::Objects::object_of))]
-fn row_values(alloc: Global, rows: &[Row], form: &JsonForm) -> Result<Vec<Json>, OutOfMemory>
+fn row_values(alloc: Global, rows: &[Row], form: &JsonForm) -> Result<Vec<Json>, Memory>
     ensures { IfOk result (λ values. map view values.items
         ≡ map (λ row. object_of (entity_members form.now (version_of row))) rows.now) }
 {

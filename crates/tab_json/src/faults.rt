@@ -1,3 +1,4 @@
+//! The text of an error (OData 3.0, JSON Format, "Error Response").
 ghost use Rattle.std.specs.Prelude.{◌≡◌, IfOk, string_bytes};
 ghost use Rattle.serde_json.specs.View.{view};
 ghost use Rattle.tab_json.specs.Faults.{fault_data, fault_json};
@@ -10,14 +11,8 @@ use tab_keys::Memory;
 pub fn write_fault(alloc: Global, code: &str, value: &str) -> Result<String, Memory>
     ensures { IfOk result (λ text. string_bytes text ≡ fault_json code.now value.now) }
 {
-    fault_text(alloc, code, value).map_err(|_| Memory)
-}
-
-fn fault_text(alloc: Global, code: &str, value: &str) -> Result<String, AllocError>
-    ensures { IfOk result (λ text. string_bytes text ≡ fault_json code.now value.now) }
-{
     let fault = fault_value(alloc, code, value)?;
-    fault.to_string(alloc)
+    Ok(fault.to_string(alloc)?)
 }
 
 #[tactic(auto, unfolding(crate::specs::Faults::fault_data, crate::specs::Faults::message_data, crate::specs::Objects::object_of, crate::specs::Objects::with_members))]

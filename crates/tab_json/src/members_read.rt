@@ -1,9 +1,11 @@
-// What the members of a body mean.
+//! What the members of a body that is read mean (OData 3.0, JSON Format, "Representing an Entity"; the types by their
+//! annotations, "odata.type Annotation").
 ghost use Rattle.std.specs.Prelude.{◌≡◌, ◌≢◌, IfOk, IfSome, MatchResult, Ok, Err, option_map, option_and_then, option_copied};
 ghost use Rattle.serde_json.specs.View.{view};
 ghost use Rattle.tab_keys.specs.KeyTexts.{key_refusal};
+ghost use Rattle.tab_keys.specs.Results.{Gives};
 ghost use Rattle.tab_edm.specs.Values.{IsInTime};
-ghost use Rattle.tab_json.specs.Bodies.{is_ignored, annotated_by, names_value, is_present, is_given, type_in, type_by, type_of, value_of, text_as, text_of, unless_refused, key_by, property_by, annotation_meaning, value_meaning, meaning_of, IsTimely};
+ghost use Rattle.tab_json.specs.Bodies.{is_ignored, annotated_by, names_value, is_present, is_given, type_in, type_by, type_of, value_of, text_as, text_of, key_or_refusal, key_by, property_by, annotation_meaning, value_meaning, meaning_of, IsTimely};
 
 use crate::JsonRefused;
 use crate::types::{EdmType, named_type, own_type, text_value, value_as};
@@ -33,9 +35,7 @@ pub(crate) fn meaning_of(
     name: &str,
     value: &Json,
 ) -> Result<Meaning, JsonRefused>
-    ensures meaning { MatchResult result
-        (λ meaning. meaning_of (view body.now) name.now (view value.now) ≡ Ok meaning)
-        (λ why. why ≢ JsonRefused.Memory → meaning_of (view body.now) name.now (view value.now) ≡ Err why) }
+    ensures meaning { Gives JsonRefused.Memory (λ meaning. meaning) result (meaning_of (view body.now) name.now (view value.now)) }
     ensures in_time { IfOk result IsTimely }
 {
     if is_ignored(name) {
@@ -125,9 +125,7 @@ fn annotation_meaning(
     name: &str,
     annotation: &Json,
 ) -> Result<Meaning, JsonRefused>
-    ensures meaning { MatchResult result
-        (λ meaning. annotation_meaning (view body.now) name.now (view annotation.now) ≡ Ok meaning)
-        (λ why. why ≢ JsonRefused.Memory → annotation_meaning (view body.now) name.now (view annotation.now) ≡ Err why) }
+    ensures meaning { Gives JsonRefused.Memory (λ meaning. meaning) result (annotation_meaning (view body.now) name.now (view annotation.now)) }
     ensures in_time { IfOk result IsTimely }
 {
     if is_given(body, name) || type_in(annotation).is_some() {
@@ -144,9 +142,7 @@ fn value_meaning(
     name: &str,
     value: &Json,
 ) -> Result<Meaning, JsonRefused>
-    ensures meaning { MatchResult result
-        (λ meaning. value_meaning (view body.now) name.now (view value.now) ≡ Ok meaning)
-        (λ why. why ≢ JsonRefused.Memory → value_meaning (view body.now) name.now (view value.now) ≡ Err why) }
+    ensures meaning { Gives JsonRefused.Memory (λ meaning. meaning) result (value_meaning (view body.now) name.now (view value.now)) }
     ensures in_time { IfOk result IsTimely }
 {
     if value.is_null() {
@@ -168,9 +164,7 @@ fn value_meaning(
 /// The key that the member of this name and value is.
 #[tactic(auto, unfolding(crate::specs::Bodies::text_of))]
 fn read_key(alloc: Global, body: &Json, name: &str, value: &Json) -> Result<KeyText, JsonRefused>
-    ensures { MatchResult result
-        (λ key. key_by name.now (text_of (view body.now) name.now (view value.now)) ≡ Ok key)
-        (λ why. why ≢ JsonRefused.Memory → key_by name.now (text_of (view body.now) name.now (view value.now)) ≡ Err why) }
+    ensures { Gives JsonRefused.Memory (λ key. key) result (key_by name.now (text_of (view body.now) name.now (view value.now))) }
 {
     let Ok(edm_type) = type_of(alloc, body, name, value) else {
         return Err(JsonRefused::Memory);
@@ -192,9 +186,7 @@ fn text_as(edm_type: Option<EdmType>, value: &Json) -> Option<&str>
 }
 
 fn key_of(alloc: Global, text: &str) -> Result<KeyText, JsonRefused>
-    ensures { MatchResult result
-        (λ key. unless_refused text.now (key_refusal text.now) ≡ Ok key)
-        (λ why. why ≢ JsonRefused.Memory → unless_refused text.now (key_refusal text.now) ≡ Err why) }
+    ensures { Gives JsonRefused.Memory (λ key. key) result (key_or_refusal text.now (key_refusal text.now)) }
 {
     match KeyText::new(alloc, text) {
         Ok(key) => Ok(key),
@@ -210,9 +202,7 @@ fn read_property(
     name: &str,
     value: &Json,
 ) -> Result<Meaning, JsonRefused>
-    ensures meaning { MatchResult result
-        (λ meaning. property_by name.now (value_of (view body.now) name.now (view value.now)) ≡ Ok meaning)
-        (λ why. why ≢ JsonRefused.Memory → property_by name.now (value_of (view body.now) name.now (view value.now)) ≡ Err why) }
+    ensures meaning { Gives JsonRefused.Memory (λ meaning. meaning) result (property_by name.now (value_of (view body.now) name.now (view value.now))) }
     ensures in_time { IfOk result IsTimely }
 {
     match value_of(alloc, body, name, value) {

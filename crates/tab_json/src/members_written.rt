@@ -1,4 +1,5 @@
-// Members of JSON objects, put in one pass over an entity.
+//! The members of an object that is written: those of an entity, put in one pass over it, and the address of its metadata (OData
+//! 3.0, JSON Format, "Representing an Entity").
 ghost use Rattle.std.specs.Prelude.{◌≡◌, ◌≤◌, [], ◌∷◌, ◌++◌, IfOk, OnOk, codes, flat_map, string_bytes};
 ghost use Rattle.serde_json.specs.Data.{no_members, string};
 ghost use Rattle.serde_json.specs.View.{members_view};
@@ -7,11 +8,12 @@ ghost use Rattle.tab_edm.specs.Values.{IsInTime};
 ghost use Rattle.tab_json.specs.Entities.{is_selected, if_selected, annotation, property_members, key_members, etag, entity_members, metadata, metadata_address};
 ghost use Rattle.tab_json.specs.Objects.{with_members};
 
-use crate::values::{annotated_type, value_of};
+use crate::values::{annotated_type, moment_value, value_of};
 use crate::{JsonForm, Version};
 use serde_json::{Map, Value as Json, put};
 use std::alloc::Global;
-use tab_edm::{Entity, GREATEST, Memory, Property, etag_text, moment_text};
+use tab_edm::{Entity, GREATEST, Property, etag_text};
+use tab_keys::Memory;
 use tab_page::Select;
 
 /// The members of an entity, the address of its metadata aside.
@@ -139,12 +141,7 @@ fn put_timestamp(
         (if_selected select.now (codes "Timestamp") ((codes "Timestamp", string (text_of_moment tick)) ∷ []))) }
 {
     if is_selected(select, "Timestamp") {
-        put(
-            members,
-            alloc,
-            "Timestamp",
-            Json::from(moment_text(alloc, tick)?),
-        )?;
+        put(members, alloc, "Timestamp", moment_value(alloc, tick)?)?;
     }
     Ok(())
 }
@@ -160,14 +157,13 @@ fn put_etag(
     ensures { OnOk result (members_view members.new.entries
         ≡ with_members (members_view members.old.entries) (etag form.now tick)) }
 {
-    if form.minimal {
-        put(
-            members,
-            alloc,
-            "odata.etag",
-            Json::from(etag_text(alloc, tick)?),
-        )?;
+    if !form.minimal {
+        return Ok(());
     }
+    let Ok(text) = etag_text(alloc, tick) else {
+        return Err(Memory);
+    };
+    put(members, alloc, "odata.etag", Json::from(text))?;
     Ok(())
 }
 

@@ -1,3 +1,4 @@
+//! The texts of a table and of lists of tables (the Table service REST reference, "Create Table" and "Query Tables").
 ghost use Rattle.std.specs.Prelude.{◌≡◌, [], ◌∷◌, IfOk, codes, map, string_bytes};
 ghost use Rattle.serde_json.specs.Data.{no_members};
 ghost use Rattle.serde_json.specs.View.{view, members_view};
@@ -8,7 +9,6 @@ use crate::JsonForm;
 use crate::members_written::put_metadata;
 use serde_json::{Map, Value as Json, push, put};
 use std::alloc::Global;
-use tab_edm::Memory as OutOfMemory;
 use tab_keys::{Memory, TableName};
 
 /// A table alone, as in the answer to its creation.
@@ -20,7 +20,8 @@ pub fn write_table(
 ) -> Result<String, Memory>
     ensures { IfOk result (λ text. string_bytes text ≡ table_json account.now name.now form.now) }
 {
-    table_text(alloc, account, name.as_str(), form).map_err(|_| Memory)
+    let value = table_value(alloc, account, name.as_str(), form)?;
+    Ok(value.to_string(alloc)?)
 }
 
 /// The tables of a list. Where the next list begins is no part of the text.
@@ -32,40 +33,12 @@ pub fn write_tables(
 ) -> Result<String, Memory>
     ensures { IfOk result (λ text. string_bytes text ≡ tables_json account.now names.now form.now) }
 {
-    tables_text(alloc, account, names, form).map_err(|_| Memory)
-}
-
-fn table_text(
-    alloc: Global,
-    account: &str,
-    name: &str,
-    form: &JsonForm,
-) -> Result<String, OutOfMemory>
-    ensures { IfOk result (λ text. string_bytes text ≡ table_json account.now name.now form.now) }
-{
-    let value = table_value(alloc, account, name, form)?;
-    Ok(value.to_string(alloc)?)
-}
-
-fn tables_text(
-    alloc: Global,
-    account: &str,
-    names: &[TableName],
-    form: &JsonForm,
-) -> Result<String, OutOfMemory>
-    ensures { IfOk result (λ text. string_bytes text ≡ tables_json account.now names.now form.now) }
-{
     let value = tables_value(alloc, account, names, form)?;
     Ok(value.to_string(alloc)?)
 }
 
 #[tactic(auto, unfolding(crate::specs::Tables::table_data))]
-fn table_value(
-    alloc: Global,
-    account: &str,
-    name: &str,
-    form: &JsonForm,
-) -> Result<Json, OutOfMemory>
+fn table_value(alloc: Global, account: &str, name: &str, form: &JsonForm) -> Result<Json, Memory>
     ensures { IfOk result (λ value. view value ≡ table_data account.now name.now form.now) }
 {
     let mut members = name_members(alloc, name)?;
@@ -79,7 +52,7 @@ fn tables_value(
     account: &str,
     names: &[TableName],
     form: &JsonForm,
-) -> Result<Json, OutOfMemory>
+) -> Result<Json, Memory>
     ensures { IfOk result (λ value. view value ≡ tables_data account.now names.now form.now) }
 {
     let mut members = Map::new(alloc);
@@ -90,7 +63,7 @@ fn tables_value(
 }
 
 #[tactic(auto, unfolding(crate::specs::Objects::object_of))]
-fn table_values(alloc: Global, names: &[TableName]) -> Result<Vec<Json>, OutOfMemory>
+fn table_values(alloc: Global, names: &[TableName]) -> Result<Vec<Json>, Memory>
     ensures { IfOk result (λ values. map view values.items ≡ map (λ name. object_of (table_name name ∷ [])) names.now) }
 {
     let mut values = Vec::with_capacity(alloc, names.len())?;
@@ -102,7 +75,7 @@ fn table_values(alloc: Global, names: &[TableName]) -> Result<Vec<Json>, OutOfMe
 }
 
 #[tactic(auto, unfolding(crate::specs::Objects::with_members))]
-fn name_members(alloc: Global, name: &str) -> Result<Map<String, Json>, OutOfMemory>
+fn name_members(alloc: Global, name: &str) -> Result<Map<String, Json>, Memory>
     ensures { IfOk result (λ members. members_view members.entries ≡ with_members no_members (table_name name.now ∷ [])) }
 {
     let mut members = Map::new(alloc);

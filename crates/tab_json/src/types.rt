@@ -1,21 +1,17 @@
-// The types of OData, and the values that JSON values stand for by them.
-ghost use Rattle.std.specs.Prelude.{◌≡◌, ◌≤◌, ◌↔◌, ℕ, ℤ, Some, IfOk, IfSome, FitsSigned};
+//! The types of OData that the service has (the Table service REST reference, "Understanding the Table service data model"), and the
+//! values that JSON values stand for.
+ghost use Rattle.std.specs.Prelude.{◌≡◌, ◌↔◌, ℤ, Some, IfOk, IfSome, FitsSigned};
 ghost use Rattle.std.specs.Int.{w64};
 ghost use Rattle.std.specs.Fmt.{signed_decimal};
 ghost use Rattle.serde_json.specs.View.{view};
-ghost use Rattle.base64.specs.Engines.{standard};
-ghost use Rattle.base64.specs.GeneralPurpose.{decoded_of};
 ghost use Rattle.uuid.specs.Text.{parsed};
-ghost use Rattle.tab_edm.specs.Moments.{IsMoment};
 ghost use Rattle.tab_edm.specs.Values.{IsInTime};
-ghost use Rattle.tab_json.specs.Values.{named_type, own_type, int32_of, int64_of, moment_of, value_as};
+ghost use Rattle.tab_json.specs.Values.{named_type, own_type, int32_of, int64_of, value_as};
 
-use base64::DecodeAllocError;
-use base64::engine::general_purpose::STANDARD;
 use itoa::Buffer;
 use serde_json::Value as Json;
 use std::alloc::Global;
-use tab_edm::{BytesValue, GREATEST, Memory, TextValue, Value, read_moment};
+use tab_edm::{BytesValue, Memory, TextValue, Value, read_moment};
 use uuid::Uuid;
 
 /// A type of OData that a property may have.
@@ -77,10 +73,10 @@ pub(crate) fn value_as(
         EdmType::Boolean => value.as_bool().map(Value::Flag),
         EdmType::Int32 => int32_of(value).map(Value::Int32),
         EdmType::Int64 => value.as_str().and_then(int64_of).map(Value::Int64),
-        EdmType::DateTime => value.as_str().and_then(moment_of).map(Value::Moment),
+        EdmType::DateTime => value.as_str().and_then(read_moment).map(Value::Moment),
         EdmType::Guid => value.as_str().and_then(guid_of).map(Value::Guid),
         EdmType::Binary => match value.as_str() {
-            Some(text) => bytes_of(alloc, text)?.map(Value::Bytes),
+            Some(text) => BytesValue::from_base64(alloc, text)?.map(Value::Bytes),
             None => None,
         },
     })
@@ -119,29 +115,11 @@ fn int64_of(text: &str) -> Option<i64>
     }
 }
 
-fn moment_of(text: &str) -> Option<u64>
-    ensures value { result ≡ moment_of text.now }
-    ensures exact { (tick : ℕ) → (result ≡ Some tick) ↔ IsMoment text.now tick }
-    ensures in_time { IfSome result (λ tick. tick ≤ GREATEST) }
-{
-    read_moment(text)
-}
-
 fn guid_of(text: &str) -> Option<[u8; 16]>
     ensures { result ≡ parsed text.now }
 {
     match Uuid::parse_str(text) {
         Ok(id) => Some(id.into_bytes()),
         Err(_) => None,
-    }
-}
-
-fn bytes_of(alloc: Global, text: &str) -> Result<Option<BytesValue>, Memory>
-    ensures { IfOk result (λ found. found ≡ decoded_of standard text.now) }
-{
-    match STANDARD.decode(alloc, text.as_bytes()) {
-        Ok(bytes) => Ok(Some(BytesValue::new(bytes))),
-        Err(DecodeAllocError::OutOfMemory) => Err(Memory),
-        Err(DecodeAllocError::DecodeError(_)) => Ok(None),
     }
 }

@@ -21,7 +21,8 @@ use Rattle.std.specs.Option.{option_or}
 use Rattle.tab_ops.specs.Groups.{ItemView, item_key, AreApart, first_elsewhere, first_doubled, most_items, group_refusal}
 use Rattle.tab_ops.specs.declared.groups.GroupRefused.{GroupRefused}
 use Rattle.tab_ops.specs.declared.groups.GroupRefused.TheVariants.{TooMany, MixedPartitions, DoubledRow}
-use Rattle.tab_ops.specs.Changes.{outcome_of, settled, unless_refused, rows_after, group_outcome, group_keys}
+use Rattle.tab_keys.specs.Results.{◌>>=◌}
+use Rattle.tab_ops.specs.Changes.{outcome_of, settled, rows_after, group_outcome, group_keys}
 use Rattle.tab_ops.specs.Laws.{row_made, IsKeptOrPut, SawRowsBefore, IsRefusedByItem}
 use Rattle.tab_ops.specs.declared.groups.OpRefused.{OpRefused}
 use Rattle.tab_ops.proofs.Lists.{AllPairs-head, AllPairs-tail}
@@ -58,7 +59,7 @@ row_at-settled : (rows : List RowView) (key : Key) (tick : ℕ) (outcome : Optio
 row_at-settled rows key tick (Some entity) = row_at-with_row rows (record { key = key; entity = entity; tick = tick })
 row_at-settled rows key tick None = row_at-without_row rows key
 
-AreRising-settled : (rows : List RowView) (key : Key) (tick : ℕ) (outcome : Option EntityView) → AreRising rows → AreRising (settled rows key tick outcome)
+pub AreRising-settled : (rows : List RowView) (key : Key) (tick : ℕ) (outcome : Option EntityView) → AreRising rows → AreRising (settled rows key tick outcome)
 AreRising-settled rows key tick (Some entity) rising = AreRising-with_row rows (record { key = key; entity = entity; tick = tick }) rising
 AreRising-settled rows key tick None rising = AreRising-without_row rows key rising
 
@@ -75,8 +76,8 @@ accepted index rows table tick item items after h = by_case (outcome_of index (r
     next outcome = rows_after (index + 1) (settled rows (item_key table item) tick outcome) table tick items
 
     by_case : (o : Result (Option EntityView) OpRefused) → outcome_of index (row_at rows (item_key table item)) item.op ≡ o → Accepted index rows table tick item items after
-    by_case (Ok outcome) e = record { outcome = outcome; is = e; rest = ap (λ r. unless_refused r next) (sym e) ∙ h }
-    by_case (Err why) e = let stuck : Err why ≡ Ok after = ap (λ r. unless_refused r next) (sym e) ∙ h in absurd (cc)
+    by_case (Ok outcome) e = record { outcome = outcome; is = e; rest = ap (λ r. r >>= next) (sym e) ∙ h }
+    by_case (Err why) e = let stuck : Err why ≡ Ok after = ap (λ r. r >>= next) (sym e) ∙ h in absurd (cc)
 
 -- ---- laws of groups
 
@@ -155,9 +156,9 @@ refused_alike index rows others table tick other (item ∷ items) why apart alik
 
     by_case : ((outcome : Option EntityView) → next rows tick outcome ≡ Err why → next others other outcome ≡ Err why) → (o : Result (Option EntityView) OpRefused) → outcome_of index (row_at rows key) item.op ≡ o → rows_after index others table other (item ∷ items) ≡ Err why
     by_case later (Ok outcome) e =
-        ap (λ r. unless_refused r (next others other)) (sym same ∙ e) ∙ later outcome (ap (λ r. unless_refused r (next rows tick)) (sym e) ∙ h)
+        ap (λ r. r >>= next others other) (sym same ∙ e) ∙ later outcome (ap (λ r. r >>= next rows tick) (sym e) ∙ h)
     by_case later (Err refusal) e =
-        ap (λ r. unless_refused r (next others other)) (sym same ∙ e) ∙ (ap (λ r. unless_refused r (next rows tick)) (sym e) ∙ h)
+        ap (λ r. r >>= next others other) (sym same ∙ e) ∙ (ap (λ r. r >>= next rows tick) (sym e) ∙ h)
 
 pub alike_itself : (rows : List RowView) (table : ℕ) (items : List ItemView) → AreAlike rows rows table items
 alike_itself rows table items = λ k d within. refl
@@ -190,10 +191,10 @@ refused_from index rows now table tick (item ∷ items) why apart alike h =
         record { behind = suc r.behind; item = r.item; here = r.here; refused = ap (λ n. outcome_of n (row_at rows (item_key table r.item)) r.item.op) (sym further) ∙ r.refused }
 
     by_case : ((outcome : Option EntityView) → next outcome ≡ Err why → RefusedFrom (index + 1) rows table items why) → (o : Result (Option EntityView) OpRefused) → outcome_of index (row_at now (item_key table item)) item.op ≡ o → RefusedFrom index rows table (item ∷ items) why
-    by_case rest (Ok outcome) e = later (rest outcome (ap (λ r. unless_refused r next) (sym e) ∙ h))
+    by_case rest (Ok outcome) e = later (rest outcome (ap (λ r. r >>= next) (sym e) ∙ h))
     by_case rest (Err refusal) e =
         let at_once : index + zero ≡ index = omega arith in
-        let stopped : unless_refused (Err refusal) next ≡ Err why = ap (λ r. unless_refused r next) (sym e) ∙ h in
+        let stopped : (Err refusal >>= next) ≡ Err why = ap (λ r. r >>= next) (sym e) ∙ h in
         record {
           behind = zero;
           item = item;

@@ -8,7 +8,8 @@ use Rattle.tab_edm.specs.Entities.{EntityView, entity_size}
 use Rattle.tab_rows.specs.Rows.{RowView, row_at}
 use Rattle.tab_rows.specs.declared.changes.Change.{Change}
 use Rattle.tab_ops.specs.Groups.{ItemView, item_key, IsMadeFor, AreApart}
-use Rattle.tab_ops.specs.Changes.{meets, merged, within_limits, merge_outcome, on_condition, outcome_of, settled, unless_refused, rows_after, group_outcome, group_keys, changed, applied, change_key, HasTick, change_to, as_change, change_of}
+use Rattle.tab_keys.specs.Results.{◌>>=◌}
+use Rattle.tab_ops.specs.Changes.{meets, merged, within_limits, merge_outcome, on_condition, outcome_of, settled, rows_after, group_outcome, group_keys, changed, applied, change_key, HasTick, change_to, as_change, change_of}
 use Rattle.tab_ops.specs.declared.ops.Match.{Match}
 use Rattle.tab_ops.specs.declared.ops.Op.{Op}
 use Rattle.tab_ops.specs.declared.ops.Op.TheVariants.{Insert, Update, Replace, Merge, MergeIn, Delete}
@@ -157,7 +158,7 @@ module _ (rows : List RowView) (changes : List Change) (table tick : ℕ) (items
   planned_stops why h =
       planned.so_far
       ∙ (ap (rows_after i now table tick) behind
-      ∙ (ap (λ row. unless_refused (outcome_of i row item.op) next) same_row ∙ ap (λ r. unless_refused r next) (refuses i rows table tick item why h)))
+      ∙ (ap (λ row. outcome_of i row item.op >>= next) same_row ∙ ap (λ r. r >>= next) (refuses i rows table tick item why h)))
 
   pub planned_more : (change : Change) → AreApart items → change_of i rows table tick item ≡ Ok change → Planned rows (changes ++ change ∷ []) table tick items (i + 1)
   planned_more change apart h =
@@ -166,8 +167,8 @@ module _ (rows : List RowView) (changes : List Change) (table tick : ℕ) (items
       record {
         so_far = planned.so_far
             ∙ (ap (rows_after i now table tick) behind
-            ∙ (ap (λ row. unless_refused (outcome_of i row item.op) next) same_row
-            ∙ (ap (λ r. unless_refused r next) one.is ∙ ap (λ (after : List RowView). rows_after (i + 1) after table tick rest) rows_now)));
+            ∙ (ap (λ row. outcome_of i row item.op >>= next) same_row
+            ∙ (ap (λ r. r >>= next) one.is ∙ ap (λ (after : List RowView). rows_after (i + 1) after table tick rest) rows_now)));
         alike = subst (λ (after : List RowView). AreAlike after rows table rest) rows_now
             (λ k d inside. row_at-settled_other now key tick one.outcome _ (head_apart table item rest (subst AreApart behind (apart_behind items i apart)) k d inside)
             ∙ All-tail (λ item. row_at now (item_key table item) ≡ row_at rows (item_key table item)) item rest alike_here k d inside);

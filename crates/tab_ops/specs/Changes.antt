@@ -1,5 +1,6 @@
 -- What operations and groups of them make of rows.
 use Rattle.std.specs.Prelude.{◌≡◌, ℕ, ◌+◌, List, [], ◌∷◌, ◌++◌, length, map, filter, Bool, true, ◌==◌, nat_lt, if◌then◌else◌, Option, Some, None, Result, Ok, Err, ⊤, ◌≤◌}
+use Rattle.tab_keys.specs.Results.{◌>>=◌}
 use Rattle.tab_keys.specs.declared.keys.Key.{Key}
 use Rattle.tab_edm.specs.Entities.{EntityView, name_lt, entity_size}
 use Rattle.tab_edm.specs.declared.values.Property.{Property}
@@ -69,18 +70,13 @@ abbrev pub settled : List RowView → Key → ℕ → Option EntityView → List
 settled rows key tick (Some entity) = with_row rows (record { key = key; entity = entity; tick = tick })
 settled rows key tick None = without_row rows key
 
--- what follows an outcome, or its refusal
-abbrev pub unless_refused : {A B : Type 0} → Result A OpRefused → (A → Result B OpRefused) → Result B OpRefused
-unless_refused (Ok outcome) next = next outcome
-unless_refused (Err refusal) next = Err refusal
-
 -- The rows after the items, the first of which has this index in its group, acted in their order with one tick, or
 -- the first refusal.
 abbrev pub rows_after : ℕ → List RowView → ℕ → ℕ → List ItemView → Result (List RowView) OpRefused
 rows_after index rows table tick [] = Ok rows
 rows_after index rows table tick (item ∷ items) =
-    unless_refused (outcome_of index (row_at rows (item_key table item)) item.op)
-    (λ outcome. rows_after (index + 1) (settled rows (item_key table item) tick outcome) table tick items)
+    outcome_of index (row_at rows (item_key table item)) item.op
+    >>= λ outcome. rows_after (index + 1) (settled rows (item_key table item) tick outcome) table tick items
 
 -- the rows after a group, or its first refusal
 abbrev pub group_outcome : List RowView → ℕ → ℕ → List ItemView → Result (List RowView) OpRefused

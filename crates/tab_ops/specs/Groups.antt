@@ -6,6 +6,7 @@ use Rattle.std.specs.Ordering.{is_eq}
 use Rattle.tab_keys.specs.Order.{text_cmp}
 use Rattle.tab_keys.specs.TableNames.{folded}
 use Rattle.tab_keys.specs.declared.keys.Key.{Key}
+use Rattle.tab_ops.specs.declared.TheConstants.{MOST_ITEMS}
 use Rattle.tab_ops.specs.declared.ops.Op.{Op}
 use Rattle.tab_ops.specs.declared.ops.Op.TheVariants.{Insert, Update, Replace, Merge, MergeIn, Delete}
 use Rattle.tab_ops.specs.declared.groups.GroupRefused.{GroupRefused}
@@ -51,7 +52,7 @@ first_doubled index before (item ∷ items) =
 
 -- the most operations of a group
 abbrev pub most_items : ℕ
-most_items = 100
+most_items = MOST_ITEMS
 
 -- why operations make no group
 unfoldable pub group_refusal : List ItemView → Option GroupRefused
@@ -61,13 +62,13 @@ group_refusal (first ∷ items) =
     else option_or (first_elsewhere 0 first (first ∷ items)) (first_doubled 0 [] (first ∷ items))
 
 -- the items, or why they are refused
-abbrev pub unless_refused : List ItemView → Option GroupRefused → Result (List ItemView) GroupRefused
-unless_refused items None = Ok items
-unless_refused items (Some why) = Err why
+abbrev pub items_or_refusal : List ItemView → Option GroupRefused → Result (List ItemView) GroupRefused
+items_or_refusal items None = Ok items
+items_or_refusal items (Some why) = Err why
 
 -- the group of operations, or why they make none
 abbrev pub grouped : List ItemView → Result (List ItemView) GroupRefused
-grouped items = unless_refused items (group_refusal items)
+grouped items = items_or_refusal items (group_refusal items)
 
 -- no two items have one row key
 abbrev pub AreApart : List ItemView → Type 0

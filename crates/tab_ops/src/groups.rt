@@ -1,10 +1,12 @@
+//! Groups of operations, which act as a whole or not at all (the Table service REST reference, "Performing Entity Group
+//! Transactions").
 ghost use Rattle.std.specs.Prelude.{◌≡◌, [], ◌∷◌, IfOk, IfNone, All, IsFalse, bytes_eq};
 ghost use Rattle.std.specs.List.{list_any};
 ghost use Rattle.std.specs.Ordering.{is_eq};
 ghost use Rattle.tab_keys.specs.Order.{text_cmp};
 ghost use Rattle.tab_ops.specs.Groups.{AreApart, IsGroup, grouped, group_refusal, first_elsewhere, first_doubled};
 
-use crate::Item;
+use crate::{Item, MOST_ITEMS};
 use std::alloc::{AllocError, AllocFailed, Global};
 use std::marker::Model;
 use tab_keys::Memory;
@@ -71,9 +73,6 @@ impl<T: Drop> From<AllocFailed<T>> for OpRefused {
     }
 }
 
-/// The most operations of a group.
-const MOST_ITEMS: usize = 100;
-
 /// Operations on rows of one partition that act as a whole or not at all, each on a row of its own.
 #[derive(Debug, Drop)]
 pub struct Group {
@@ -121,6 +120,7 @@ impl Group {
         self.items.as_slice()
     }
 
+    /// A copy, or that no memory was found for it.
     pub fn try_copy(&self, alloc: Global) -> Result<Group, Memory>
         ensures { IfOk result (λ copy. copy ≡ self.now) }
     {
@@ -132,9 +132,9 @@ impl Group {
 fn copied(alloc: Global, items: &[Item]) -> Result<Vec<Item>, Memory>
     ensures { IfOk result (λ copies. copies.items ≡ items.now) }
 {
-    let mut copies = Vec::with_capacity(alloc, items.len()).map_err(|_| Memory)?;
+    let mut copies = Vec::with_capacity(alloc, items.len())?;
     for item in items {
-        copies.push(item.try_copy(alloc)?).map_err(|_| Memory)?;
+        copies.push(item.try_copy(alloc)?)?;
     }
     Ok(copies)
 }

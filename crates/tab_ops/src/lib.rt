@@ -17,3 +17,6 @@ pub use laws::{
 };
 pub use ops::{Item, Match, Op};
 pub use plans::{ChangeList, Changes, plan};
+
+/// The most operations that a group may have.
+pub const MOST_ITEMS: usize = 100;

@@ -1,4 +1,6 @@
+//! Merged entities (the Table service REST reference, "Merge Entity").
 ghost use Rattle.std.specs.Prelude.{IfErr, ◌≡◌, ◌≢◌, ◌++◌, Ok, Err, Some, MatchResult, IfOk, filter};
+ghost use Rattle.tab_keys.specs.Results.{Gives};
 ghost use Rattle.tab_edm.specs.Entities.{IsEntity};
 ghost use Rattle.tab_ops.specs.Changes.{IsTimely, merge_outcome};
 ghost use Rattle.tab_ops.specs.Merges.{is_kept, refusal_for};
@@ -14,9 +16,7 @@ pub(crate) fn merge(
     kept: &Entity,
     given: &Entity,
 ) -> Result<Entity, OpRefused>
-    ensures entity { MatchResult result
-        (λ entity. merge_outcome index kept.now given.now ≡ Ok (Some entity))
-        (λ why. why ≢ OpRefused.Memory → merge_outcome index kept.now given.now ≡ Err why) }
+    ensures entity { Gives OpRefused.Memory Some result (merge_outcome index kept.now given.now) }
     ensures timely { IfErr result IsTimely }
 {
     let Ok(properties) = joined(alloc, kept, given) else {

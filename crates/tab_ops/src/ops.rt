@@ -1,3 +1,5 @@
+//! Operations on one row, under conditions (the Table service REST reference, "Insert Entity" to "Delete Entity", and its
+//! header If-Match; RFC 9110, section 13.1.1).
 ghost use Rattle.std.specs.Prelude.{◌≡◌, IfOk, bytes_eq};
 ghost use Rattle.std.specs.Ordering.{is_eq};
 ghost use Rattle.tab_keys.specs.Order.{text_cmp};
@@ -35,6 +37,7 @@ pub enum Op {
 }
 
 impl Op {
+    /// A copy, or that no memory was found for it.
     pub fn try_copy(&self, alloc: Global) -> Result<Op, Memory>
         ensures { IfOk result (λ copy. copy ≡ self.now) }
     {
@@ -58,6 +61,7 @@ pub(crate) fn copied(alloc: Global, entity: &Entity) -> Result<Entity, Memory>
 /// An operation with the row that it acts on.
 #[derive(Debug, Drop)]
 pub struct Item {
+    /// The name of the row's table, as the request spells it.
     pub name: TableName,
     pub pk: KeyText,
     pub rk: KeyText,
@@ -77,6 +81,7 @@ impl Model for Item {
 }
 
 impl Item {
+    /// A copy, or that no memory was found for it.
     pub fn try_copy(&self, alloc: Global) -> Result<Item, Memory>
         ensures { IfOk result (λ copy. copy ≡ self.now) }
     {

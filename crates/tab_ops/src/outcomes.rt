@@ -1,5 +1,7 @@
+//! What one operation makes of a row or of its absence.
 ghost use Rattle.std.specs.Prelude.{◌≡◌, ◌≢◌, ◌≤◌, IfErr, Ok, Err, Some, None, MatchResult, if◌then◌else◌};
 ghost use Rattle.std.specs.Option.{option_copied};
+ghost use Rattle.tab_keys.specs.Results.{Gives};
 ghost use Rattle.tab_ops.specs.Changes.{meets, outcome_of, IsTimely};
 ghost use Rattle.tab_edm.specs.declared.TheConstants.{GREATEST};
 
@@ -17,9 +19,7 @@ pub(crate) fn outcome_of(
     kept: Option<&Row>,
     op: &Op,
 ) -> Result<Option<Entity>, OpRefused>
-    ensures outcome { MatchResult result
-        (λ outcome. outcome_of index (option_copied kept.entry) op.now ≡ Ok outcome)
-        (λ why. why ≢ OpRefused.Memory → outcome_of index (option_copied kept.entry) op.now ≡ Err why) }
+    ensures outcome { Gives OpRefused.Memory (λ outcome. outcome) result (outcome_of index (option_copied kept.entry) op.now) }
     ensures timely { IfErr result IsTimely }
 {
     match kept {
@@ -29,9 +29,7 @@ pub(crate) fn outcome_of(
 }
 
 fn outcome_of_absence(alloc: Global, index: usize, op: &Op) -> Result<Option<Entity>, OpRefused>
-    ensures outcome { MatchResult result
-        (λ outcome. outcome_of index None op.now ≡ Ok outcome)
-        (λ why. why ≢ OpRefused.Memory → outcome_of index None op.now ≡ Err why) }
+    ensures outcome { Gives OpRefused.Memory (λ outcome. outcome) result (outcome_of index None op.now) }
     ensures timely { IfErr result IsTimely }
 {
     match op {
@@ -48,9 +46,7 @@ fn outcome_of_row(
     row: &Row,
     op: &Op,
 ) -> Result<Option<Entity>, OpRefused>
-    ensures outcome { MatchResult result
-        (λ outcome. outcome_of index (Some row.now) op.now ≡ Ok outcome)
-        (λ why. why ≢ OpRefused.Memory → outcome_of index (Some row.now) op.now ≡ Err why) }
+    ensures outcome { Gives OpRefused.Memory (λ outcome. outcome) result (outcome_of index (Some row.now) op.now) }
     ensures timely { IfErr result IsTimely }
 {
     match op {

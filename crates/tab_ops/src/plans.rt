@@ -1,4 +1,6 @@
+//! The changes of rows that a group comes to.
 ghost use Rattle.std.specs.Prelude.{◌≡◌, ◌≢◌, ◌≤◌, length, map, All, Ok, Err, MatchResult, IfOk, IfErr};
+ghost use Rattle.tab_keys.specs.Results.{Gives};
 ghost use Rattle.tab_edm.specs.declared.TheConstants.{GREATEST};
 ghost use Rattle.tab_ops.specs.Groups.{IsGroup};
 ghost use Rattle.tab_ops.specs.Changes.{group_outcome, group_keys, applied, change_of, change_key, HasTick, IsTimely};
@@ -27,18 +29,21 @@ impl Model for ChangeList {
 }
 
 impl ChangeList {
+    /// The changes, in the memory that they have.
     pub fn new(changes: Vec<Change>) -> ChangeList
         ensures { result ≡ changes.items }
     {
         ChangeList { changes }
     }
 
+    /// How many there are.
     pub fn len(&self) -> usize
         ensures { result ≡ length self.now }
     {
         self.changes.len()
     }
 
+    /// The changes, lent.
     pub fn as_slice(&self) -> &[Change]
         ensures { result.now ≡ self.now }
     {
@@ -52,6 +57,7 @@ impl ChangeList {
         self.changes
     }
 
+    /// A copy, or that no memory was found for it.
     pub fn try_copy(&self, alloc: Global) -> Result<ChangeList, Memory>
         ensures { IfOk result (λ copy. copy ≡ self.now) }
     {
@@ -63,9 +69,9 @@ impl ChangeList {
 fn copied(alloc: Global, changes: &[Change]) -> Result<Vec<Change>, Memory>
     ensures { IfOk result (λ copies. copies.items ≡ changes.now) }
 {
-    let mut copies = Vec::with_capacity(alloc, changes.len()).map_err(|_| Memory)?;
+    let mut copies = Vec::with_capacity(alloc, changes.len())?;
     for change in changes {
-        copies.push(change.try_copy(alloc)?).map_err(|_| Memory)?;
+        copies.push(change.try_copy(alloc)?)?;
     }
     Ok(copies)
 }
@@ -73,11 +79,14 @@ fn copied(alloc: Global, changes: &[Change]) -> Result<Vec<Change>, Memory>
 /// What a group comes to: changes of rows, of which each row that is put has the tick.
 #[derive(Debug, Drop)]
 pub struct Changes {
+    /// The tick of each row that is put.
     pub tick: u64,
+    /// A change for each operation, in their order.
     pub list: ChangeList,
 }
 
 impl Changes {
+    /// A copy, or that no memory was found for it.
     pub fn try_copy(&self, alloc: Global) -> Result<Changes, Memory>
         ensures { IfOk result (λ copy. copy ≡ self.now) }
     {
@@ -99,9 +108,7 @@ pub fn plan(
     tick: u64,
 ) -> Result<Changes, OpRefused>
     requires { tick ≤ GREATEST }
-    ensures outcome { MatchResult result
-        (λ changes. group_outcome rows.now.rows table tick group.now ≡ Ok (applied rows.now.rows changes.list))
-        (λ why. why ≢ OpRefused.Memory → group_outcome rows.now.rows table tick group.now ≡ Err why) }
+    ensures outcome { Gives OpRefused.Memory (λ changes. applied rows.now.rows changes.list) result (group_outcome rows.now.rows table tick group.now) }
     ensures timely { IfErr result IsTimely }
     ensures tick { IfOk result (λ changes. changes.tick ≡ tick) }
     ensures each { IfOk result (λ changes. length changes.list ≡ length group.now) }
@@ -130,9 +137,7 @@ fn change_of(
     item: &Item,
 ) -> Result<Change, OpRefused>
     requires { tick ≤ GREATEST }
-    ensures change { MatchResult result
-        (λ change. change_of index rows.now.rows table tick item.now ≡ Ok change)
-        (λ why. why ≢ OpRefused.Memory → change_of index rows.now.rows table tick item.now ≡ Err why) }
+    ensures change { Gives OpRefused.Memory (λ change. change) result (change_of index rows.now.rows table tick item.now) }
     ensures timely { IfErr result IsTimely }
 {
     let key = item.key(alloc, table)?;

@@ -22,7 +22,7 @@ use Rattle.tab_page.specs.declared.pages.Options.{Options}
 use Rattle.tab_page.specs.declared.pages.Page.{Page}
 use Rattle.tab_page.specs.Pages.{window, matches, key_at, later_key, corner, start_key, is_listed, listed, looked_at, prefix_length, most_looked_at, next_of, page_up_to, page_below}
 use Rattle.tab_page.specs.Scans.{is_within, rows_at, InOneRun, AreInOneRun}
-use Rattle.tab_page.proofs.WindowRuns.{IsRun, window_runs, no_gap, not_small_above, above_small, above_corner}
+use Rattle.tab_page.proofs.WindowRuns.{IsRun, window_runs, no_gap, not_small_above, above_small, above_corner, lt_first}
 
 -- ---- keys of one table
 
@@ -36,11 +36,6 @@ le_by_lt a b o h = grind (arith, nat_tests)
 tables_rise : (a b : Key) → key_lt a b ≡ true → a.table ≤ b.table
 unfolding key_cmp
 tables_rise a b h = le_by_lt a.table b.table _ h
-
-lt_first : (a b : Ordering) → is_lt (ordering_then a b) ≡ false → is_lt a ≡ false
-lt_first Less b h = h
-lt_first Equal b h = refl
-lt_first Greater b h = refl
 
 -- ---- where a page begins
 
@@ -224,7 +219,7 @@ all_listed rows cursor table options span start all is inside e =
 pub all_in_one_run : (rows cursor : List RowView) (table : ℕ) (options : Options) (start : Key) (all : WindowView) → Opened table options start all → AreRising rows → cursor ≡ rows_at rows start all → AreInOneRun start all cursor
 all_in_one_run rows cursor table options start all is rising e = subst (AreInOneRun start all) (sym e) (rows_in_one_run start all is.run is.begins rows rising)
 
--- what the walk counts is what the page looks at
+-- what the scan counts is what the page looks at
 pub looked_at-is : (rows : List RowView) (table : ℕ) (options : Options) (hi : Bound) (found : List RowView) → found ≡ listed rows table options hi → prefix_length (matches options) options.top most_looked_at found ≡ looked_at rows table options hi
 unfolding looked_at
 looked_at-is rows table options hi found e = ap (prefix_length (matches options) options.top most_looked_at) e
@@ -234,13 +229,13 @@ next_by_first table all hi [] = refl
 next_by_first table all hi (row ∷ rows) = refl
 
 -- a page by its parts
-pub page_is : (rows : List RowView) (table : ℕ) (options : Options) (hi edge end : Bound) (walked found items : List RowView) (rest : Option RowView) (all : WindowView) (next : Option (List ℕ × List ℕ)) → walked ≡ listed rows table options hi
-    → items ≡ filter (matches options) (take (prefix_length (matches options) options.top most_looked_at walked) walked)
-    → rest ≡ slice_get (drop (prefix_length (matches options) options.top most_looked_at walked) walked) 0
+pub page_is : (rows : List RowView) (table : ℕ) (options : Options) (hi edge end : Bound) (scanned found items : List RowView) (rest : Option RowView) (all : WindowView) (next : Option (List ℕ × List ℕ)) → scanned ≡ listed rows table options hi
+    → items ≡ filter (matches options) (take (prefix_length (matches options) options.top most_looked_at scanned) scanned)
+    → rest ≡ slice_get (drop (prefix_length (matches options) options.top most_looked_at scanned) scanned) 0
     → all ≡ window options → next ≡ next_of table all edge (option_to_list rest) → edge ≡ hi → end ≡ hi → found ≡ items
     → ◌≡◌ {A = Page} (record { rows = found; next = next; end = end }) (page_below rows table options hi)
 unfolding page_below page_up_to looked_at
-page_is rows table options hi edge end walked found items rest all next e f g h k l m n =
+page_is rows table options hi edge end scanned found items rest all next e f g h k l m n =
     let count : List RowView → ℕ = λ xs. prefix_length (matches options) options.top most_looked_at xs in
     let kept : found ≡ filter (matches options) (take (count (listed rows table options hi)) (listed rows table options hi)) =
     n ∙ (f ∙ ap (λ (xs : List RowView). filter (matches options) (take (count xs) xs)) e) in
@@ -252,5 +247,5 @@ page_is rows table options hi edge end walked found items rest all next e f g h 
     ∙ next_by_first table (window options) hi (drop (count (listed rows table options hi)) (listed rows table options hi))))) in
     λ i. record { rows = kept i; next = goes_on i; end = m i }
 
-pub steps_are : (rows : List RowView) (table : ℕ) (options : Options) (hi : Bound) (walked : List RowView) (before now : ℕ) → walked ≡ listed rows table options hi → now ≤ before + prefix_length (matches options) options.top most_looked_at walked + 2 → now ≤ before + looked_at rows table options hi + 2
-steps_are rows table options hi walked before now e h = subst (λ (n : ℕ). now ≤ before + n + 2) (looked_at-is rows table options hi walked e) h
+pub steps_are : (rows : List RowView) (table : ℕ) (options : Options) (hi : Bound) (scanned : List RowView) (before now : ℕ) → scanned ≡ listed rows table options hi → now ≤ before + prefix_length (matches options) options.top most_looked_at scanned + 2 → now ≤ before + looked_at rows table options hi + 2
+steps_are rows table options hi scanned before now e h = subst (λ (n : ℕ). now ≤ before + n + 2) (looked_at-is rows table options hi scanned e) h

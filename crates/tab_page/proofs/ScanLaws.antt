@@ -1,4 +1,4 @@
--- A walk through rows, of which some are listed: what was found among the first of those, and how many are left to look at.
+-- A scan through rows, of which some are listed: what was found among the first of those, and how many are left to look at.
 use Rattle.std.proofs.Common.{◌≡◌, ℕ, zero, suc, ◌+◌, ◌-◌, ◌<◌, ◌≤◌, ◌⊎◌, inl, inr, List, [], ◌∷◌, ◌++◌, length, take, drop, filter, Bool, true, false, cond, ◌||◌, ◌==◌, Option, Some, None, refl, sym, ap, ◌∙◌, subst, arith, add-one, length-append}
 use Rattle.std.specs.Prelude.{All, AllPairs, slice_get}
 use Rattle.std.proofs.lemmas.Bool.{eq-eqb, ne_eqb, true≢false}
@@ -10,6 +10,7 @@ use Rattle.tab_rows.specs.Rows.{RowView}
 use Rattle.tab_filter.specs.Windows.{WindowView}
 use Rattle.tab_page.specs.Pages.{prefix_length}
 use Rattle.tab_page.specs.Scans.{is_within, InOneRun, AreInOneRun}
+use Rattle.tab_page.proofs.RisingLists.{AllPairs-head, AllPairs-tail}
 
 -- ---- the first of what is left
 
@@ -27,13 +28,13 @@ moved (y ∷ ys) (suc n) x left h =
 
 module _ {X : Type 0} (listed m : X → Bool) (top most : ℕ) where
   -- after so many of all that is listed, where these rows are left
-  pub record Walk (all rest found : List X) (looked : ℕ) : Type 0 where
+  pub record ScanSoFar (all rest found : List X) (looked : ℕ) : Type 0 where
     pub found_is : found ≡ filter m (take looked all)
     pub rest_is : filter listed rest ≡ drop looked all
     pub few : looked ≤ most
     pub so_far : prefix_length m top most all ≡ looked + prefix_length m (top - length found) (most - looked) (drop looked all)
 
-  pub at_first : (rows found : List X) → found ≡ [] → Walk (filter listed rows) rows found 0
+  pub at_first : (rows found : List X) → found ≡ [] → ScanSoFar (filter listed rows) rows found 0
   at_first rows found none = record {
     found_is = none;
     rest_is = refl;
@@ -45,7 +46,7 @@ module _ {X : Type 0} (listed m : X → Bool) (top most : ℕ) where
       first xs = simp (zero-add, sub-zero)
 
   -- a row that is not listed is passed by
-  pub passed : (all rest found : List X) (looked : ℕ) (x : X) → listed x ≡ false → Walk all (x ∷ rest) found looked → Walk all rest found looked
+  pub passed : (all rest found : List X) (looked : ℕ) (x : X) → listed x ≡ false → ScanSoFar all (x ∷ rest) found looked → ScanSoFar all rest found looked
   passed all rest found looked x out w = record {
     found_is = w.found_is;
     rest_is = sym (ap (λ (t : Bool). cond t (x ∷ filter listed rest) (filter listed rest)) out) ∙ w.rest_is;
@@ -54,7 +55,7 @@ module _ {X : Type 0} (listed m : X → Bool) (top most : ℕ) where
   }
 
   -- what is left begins with a row that is listed
-  head : (all rest found : List X) (looked : ℕ) (x : X) → listed x ≡ true → Walk all (x ∷ rest) found looked → drop looked all ≡ x ∷ filter listed rest
+  head : (all rest found : List X) (looked : ℕ) (x : X) → listed x ≡ true → ScanSoFar all (x ∷ rest) found looked → drop looked all ≡ x ∷ filter listed rest
   head all rest found looked x in_list w = sym w.rest_is ∙ ap (λ (t : Bool). cond t (x ∷ filter listed rest) (filter listed rest)) in_list
 
   counted : (xs : List X) (x : X) (a b : ℕ) → 0 < a → 0 < b → prefix_length m a b (x ∷ xs) ≡ suc (prefix_length m (a - cond (m x) 1 0) (b - 1) xs)
@@ -68,7 +69,7 @@ module _ {X : Type 0} (listed m : X → Bool) (top most : ℕ) where
       by_test false = refl
 
   -- a listed row is looked at
-  pub looked_at_row : (all rest found more : List X) (looked : ℕ) (x : X) → listed x ≡ true → looked < most → length found < top → more ≡ found ++ filter m (x ∷ []) → Walk all (x ∷ rest) found looked → Walk all rest more (looked + 1)
+  pub looked_at_row : (all rest found more : List X) (looked : ℕ) (x : X) → listed x ≡ true → looked < most → length found < top → more ≡ found ++ filter m (x ∷ []) → ScanSoFar all (x ∷ rest) found looked → ScanSoFar all rest more (looked + 1)
   looked_at_row all rest found more looked x in_list some room adds w =
       rw add-one (record {
         found_is = adds ∙ (ap (λ (xs : List X). xs ++ filter m (x ∷ [])) w.found_is ∙ (sym (filter-append m (take looked all) (x ∷ [])) ∙ ap (filter m) (sym step.taken)));
@@ -97,7 +98,7 @@ module _ {X : Type 0} (listed m : X → Bool) (top most : ℕ) where
       shifted : (a b : ℕ) → a + suc b ≡ suc a + b
       shifted a b = omega arith
 
-  -- where the walk ends
+  -- where the scan ends
   pub record Ended (all found : List X) (rest : Option X) (looked : ℕ) : Type 0 where
     pub length_is : prefix_length m top most all ≡ looked
     pub found_all : found ≡ filter m (take (prefix_length m top most all) all)
@@ -123,7 +124,7 @@ module _ {X : Type 0} (listed m : X → Bool) (top most : ℕ) where
   none_left n = omega arith
 
   -- at the first row behind a full prefix
-  pub ended_full : (all rest found : List X) (looked : ℕ) (x : X) → listed x ≡ true → (top - length found ≡ 0) ⊎ (most - looked ≡ 0) → Walk all (x ∷ rest) found looked → Ended all found (Some x) looked
+  pub ended_full : (all rest found : List X) (looked : ℕ) (x : X) → listed x ≡ true → (top - length found ≡ 0) ⊎ (most - looked ≡ 0) → ScanSoFar all (x ∷ rest) found looked → Ended all found (Some x) looked
   ended_full all rest found looked x in_list stop w =
       ended all found looked (Some x)
       (w.so_far ∙ (ap (λ (n : ℕ). looked + n) (full (drop looked all) (top - length found) (most - looked) stop) ∙ none_left looked))
@@ -131,19 +132,13 @@ module _ {X : Type 0} (listed m : X → Bool) (top most : ℕ) where
       (sym (ap (λ (xs : List X). slice_get xs 0) (head all rest found looked x in_list w)))
 
   -- or where nothing listed is left
-  pub ended_last : (all rest found : List X) (looked : ℕ) → filter listed rest ≡ [] → Walk all rest found looked → Ended all found None looked
+  pub ended_last : (all rest found : List X) (looked : ℕ) → filter listed rest ≡ [] → ScanSoFar all rest found looked → Ended all found None looked
   ended_last all rest found looked none w =
       let nothing : drop looked all ≡ [] = sym w.rest_is ∙ none in
       ended all found looked None
       (w.so_far ∙ (ap (λ (xs : List X). looked + prefix_length m (top - length found) (most - looked) xs) nothing ∙ none_left looked))
       w.found_is
       (sym (ap (λ (xs : List X). slice_get xs 0) nothing))
-
-AllPairs-head : {X : Type 0} (R : X → X → Type 0) (x : X) (xs : List X) → AllPairs R (x ∷ xs) → All (R x) xs
-AllPairs-head R x xs h k d within = h zero (suc k) d (omega arith) (omega arith)
-
-AllPairs-tail : {X : Type 0} (R : X → X → Type 0) (x : X) (xs : List X) → AllPairs R (x ∷ xs) → AllPairs R xs
-AllPairs-tail R x xs h i j d below within = h (suc i) (suc j) d (omega arith) (omega arith)
 
 filter_none : {X : Type 0} (p : X → Bool) (xs : List X) → All (λ x. p x ≡ false) xs → filter p xs ≡ []
 filter_none p [] h = refl

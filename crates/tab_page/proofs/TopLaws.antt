@@ -5,6 +5,7 @@ use Rattle.std.specs.Fmt.{decimal}
 use Rattle.std.proofs.lemmas.Bool.{and_parts, leb-true, le-leb, eqb-false, ne_eqb}
 use Rattle.std.proofs.lemmas.Option.{cond_some, option_and_then_some, same_Some}
 use Rattle.std.proofs.lemmas.Fmt.{decimal_digit, decimal_step, decimal_by_steps, decimal_nonempty, first_decimal}
+use Rattle.tab_page.specs.declared.TheConstants.{MOST_ROWS}
 use Rattle.tab_page.specs.Queries.{is_digit, with_digit, with_digits, read_top, ReadsDecimals}
 
 -- ---- one digit
@@ -13,27 +14,27 @@ record DigitRead (n b k : ℕ) : Type 0 where
   low : 48 ≤ b
   high : b ≤ 57
   value : n * 10 + (b - 48) ≡ k
-  few : k ≤ 1000
+  few : k ≤ MOST_ROWS
 
 with_digit-is : (n b k : ℕ) → with_digit n b ≡ Some k → DigitRead n b k
 with_digit-is n b k h =
-    let parts = cond_some (is_digit b && nat_le (n * 10 + (b - 48)) 1000) (n * 10 + (b - 48)) k h in
-    let tests = and_parts (is_digit b) (nat_le (n * 10 + (b - 48)) 1000) parts.0 in
+    let parts = cond_some (is_digit b && nat_le (n * 10 + (b - 48)) MOST_ROWS) (n * 10 + (b - 48)) k h in
+    let tests = and_parts (is_digit b) (nat_le (n * 10 + (b - 48)) MOST_ROWS) parts.0 in
     let digits = and_parts (nat_le 48 b) (nat_le b 57) tests.0 in
-    let bound : n * 10 + (b - 48) ≤ 1000 = leb-true (n * 10 + (b - 48)) 1000 tests.1 in
+    let bound : n * 10 + (b - 48) ≤ MOST_ROWS = leb-true (n * 10 + (b - 48)) MOST_ROWS tests.1 in
     record { low = leb-true 48 b digits.0; high = leb-true b 57 digits.1; value = parts.1; few = let e = parts.1 in omega arith }
 
-digit_gives : (n d k : ℕ) → d < 10 → n * 10 + d ≡ k → k ≤ 1000 → with_digit n (48 + d) ≡ Some k
+digit_gives : (n d k : ℕ) → d < 10 → n * 10 + d ≡ k → k ≤ MOST_ROWS → with_digit n (48 + d) ≡ Some k
 digit_gives n d k small e few =
     let same : 48 + d - 48 ≡ d = omega arith in
-    rw (le-leb 48 (48 + d) (omega arith), le-leb (48 + d) 57 (omega arith), same, e, le-leb k 1000 few) refl
+    rw (le-leb 48 (48 + d) (omega arith), le-leb (48 + d) 57 (omega arith), same, e, le-leb k MOST_ROWS few) refl
 
 -- ---- several digits
 
 record Behind (n m : ℕ) (digits : List ℕ) : Type 0 where
   is : decimal m ≡ decimal n ++ digits
   low : n ≤ m
-  few : m ≤ 1000
+  few : m ≤ MOST_ROWS
 
 one_more : (n b k : ℕ) → 0 < n → DigitRead n b k → decimal k ≡ decimal n ++ b ∷ []
 one_more n b k some read =
@@ -52,7 +53,7 @@ joined n b k m bs some read rest = record {
   few = rest.few;
 }
 
-behind : (n m : ℕ) (bs : List ℕ) → 0 < n → n ≤ 1000 → with_digits n bs ≡ Some m → Behind n m bs
+behind : (n m : ℕ) (bs : List ℕ) → 0 < n → n ≤ MOST_ROWS → with_digits n bs ≡ Some m → Behind n m bs
 behind n m [] some few h =
     let same : n ≡ m = same_Some n m h in
     record { is = ap decimal (sym same) ∙ sym (append-nil (decimal n)); low = omega arith; few = omega arith }
@@ -83,11 +84,11 @@ first_digit b k other read =
     let same : 48 + k ≡ b = omega arith in
     (omega arith, decimal_digit k (omega arith) ∙ ap (λ (x : ℕ). x ∷ []) same)
 
-read_forth : (text : List ℕ) (n : ℕ) → read_top text ≡ Some n → (1 ≤ n) × (n ≤ 1000) × (text ≡ decimal n)
+read_forth : (text : List ℕ) (n : ℕ) → read_top text ≡ Some n → (1 ≤ n) × (n ≤ MOST_ROWS) × (text ≡ decimal n)
 read_forth [] n h = cc h
 read_forth (b ∷ bs) n h = by_test (b == 48) refl
   where
-    by_test : (t : Bool) → (b == 48) ≡ t → (1 ≤ n) × (n ≤ 1000) × (b ∷ bs ≡ decimal n)
+    by_test : (t : Bool) → (b == 48) ≡ t → (1 ≤ n) × (n ≤ MOST_ROWS) × (b ∷ bs ≡ decimal n)
     by_test true e = cc (sym (ap (λ (u : Bool). cond u None (with_digits 0 (b ∷ bs))) e) ∙ h)
     by_test false e =
         option_and_then_some (λ k. with_digits k bs) (with_digit 0 b) n (sym (ap (λ (u : Bool). cond u None (with_digits 0 (b ∷ bs))) e) ∙ h)
@@ -99,8 +100,8 @@ read_forth (b ∷ bs) n h = by_test (b == 48) refl
         let low = all.low in
         (omega arith, all.few, sym (all.is ∙ ap (λ (ds : List ℕ). ds ++ bs) first.1)))
 
-digits_of : (n : ℕ) → n < 2 ^ 64 → n ≤ 1000 → with_digits 0 (decimal n) ≡ Some n
-digits_of = decimal_by_steps (λ n ds. n ≤ 1000 → with_digits 0 ds ≡ Some n)
+digits_of : (n : ℕ) → n < 2 ^ 64 → n ≤ MOST_ROWS → with_digits 0 (decimal n) ≡ Some n
+digits_of = decimal_by_steps (λ n ds. n ≤ MOST_ROWS → with_digits 0 ds ≡ Some n)
     (λ n small few. ap (option_and_then (λ y. with_digits y [])) (digit_gives 0 n n small (omega arith) few))
     (λ n ds large rest few.
     let front = rest (omega arith) in
@@ -111,7 +112,7 @@ read_nonzero : (text : List ℕ) (n : ℕ) → 0 < length text → 48 < get_or t
 read_nonzero [] n some first h = absurd (omega arith)
 read_nonzero (b ∷ bs) n some first h = ap (λ (u : Bool). cond u None (with_digits 0 (b ∷ bs))) (ne_eqb b 48 (λ e. omega arith)) ∙ h
 
-read_back : (text : List ℕ) (n : ℕ) → (1 ≤ n) × (n ≤ 1000) × (text ≡ decimal n) → read_top text ≡ Some n
+read_back : (text : List ℕ) (n : ℕ) → (1 ≤ n) × (n ≤ MOST_ROWS) × (text ≡ decimal n) → read_top text ≡ Some n
 read_back text n h =
     let low = h.0 in
     let few = h.1 in

@@ -336,7 +336,7 @@ fixed_low (n ∷ ns) key f h = by_cases (λ g k. fixed_low ns key g k) (is_equal
     by_cases others false e =
         le_trans key (lower_corner ns) (greater_corner n (lower_corner ns)) (others (ap (λ (t : Bool). t || any_fixes ns) (sym e) ∙ f) parts.1) (corner_over_corner n (lower_corner ns))
 
-lt_first : (a b : Ordering) → is_lt (ordering_then a b) ≡ false → is_lt a ≡ false
+pub lt_first : (a b : Ordering) → is_lt (ordering_then a b) ≡ false → is_lt a ≡ false
 lt_first Less b h = h
 lt_first Equal b h = refl
 lt_first Greater b h = refl

@@ -8,6 +8,7 @@ use Rattle.tab_rows.specs.Rows.{RowView}
 use Rattle.tab_filter.specs.Trees.{Tree}
 use Rattle.tab_filter.specs.Truth.{FilteredRow, truth}
 use Rattle.tab_filter.specs.Windows.{WindowView, window_of, has, reaches, lower_corner}
+use Rattle.tab_page.specs.declared.TheConstants.{MOST_LOOKED_AT}
 use Rattle.tab_page.specs.declared.pages.Options.{Options}
 use Rattle.tab_page.specs.declared.pages.Page.{Page}
 
@@ -71,7 +72,7 @@ is_listed table all start end row =
 
 -- the rows that a page looks at, at the most
 abbrev pub most_looked_at : ℕ
-most_looked_at = 10000
+most_looked_at = MOST_LOOKED_AT
 
 -- the length of the shortest front with that many matches or that many rows, or of the whole list
 abbrev pub prefix_length : {A : Type 0} → (A → Bool) → ℕ → ℕ → List A → ℕ

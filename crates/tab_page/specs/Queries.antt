@@ -6,22 +6,18 @@ use Rattle.std.specs.Option.{ok_or, option_and_then}
 use Rattle.std.specs.Str.{chars}
 use Rattle.std.specs.Str.Lossy.{utf8_lossy}
 use Rattle.form_urlencoded.specs.Form.{raw_pairs, decode}
+use Rattle.tab_keys.specs.Results.{◌>>=◌}
 use Rattle.tab_filter.specs.Trees.{Tree}
 use Rattle.tab_filter.specs.Lexer.{ParseFault}
 use Rattle.tab_filter.specs.Parser.{filter_at}
 use Rattle.tab_filter.specs.Offsets.{refusal_of}
+use Rattle.tab_page.specs.declared.TheConstants.{MOST_ROWS}
 use Rattle.tab_page.specs.declared.pages.Options.{Options}
 use Rattle.tab_page.specs.declared.queries.OptionRefused.{OptionRefused}
 use Rattle.tab_page.specs.declared.queries.OptionRefused.TheVariants.{BadOption, BadTop, BadToken, Filter}
 use Rattle.tab_page.specs.declared.selects.Select.{Select}
 use Rattle.tab_page.specs.declared.selects.Select.TheVariants.{All, Names}
 use Rattle.tab_page.specs.Tokens.{read_token}
-
-infixl 20 ◌>>=◌
--- what is left to do, unless there was a refusal
-abbrev pub ◌>>=◌ : {A B : Type 0} → Result A OptionRefused → (A → Result B OptionRefused) → Result B OptionRefused
-Ok x >>= f = f x
-Err why >>= f = Err why
 
 -- ---- the options of a query
 
@@ -52,7 +48,7 @@ is_digit b = nat_le 48 b && nat_le b 57
 
 -- the number with one more decimal digit, where it is at most 1,000
 abbrev pub with_digit : ℕ → ℕ → Option ℕ
-with_digit n b = if is_digit b && nat_le (n * 10 + (b - 48)) 1000 then Some (n * 10 + (b - 48)) else None
+with_digit n b = if is_digit b && nat_le (n * 10 + (b - 48)) MOST_ROWS then Some (n * 10 + (b - 48)) else None
 
 abbrev pub with_digits : ℕ → List ℕ → Option ℕ
 with_digits n [] = Some n
@@ -65,11 +61,11 @@ read_top (b ∷ bs) = if b == 48 then None else with_digits 0 (b ∷ bs)
 
 -- so a text is read as a number exactly where it is its decimal text
 abbrev pub ReadsDecimals : Type 0
-ReadsDecimals = (text : List ℕ) (n : ℕ) → (read_top text ≡ Some n) ↔ ((1 ≤ n) × (n ≤ 1000) × (text ≡ decimal n))
+ReadsDecimals = (text : List ℕ) (n : ℕ) → (read_top text ≡ Some n) ↔ ((1 ≤ n) × (n ≤ MOST_ROWS) × (text ≡ decimal n))
 
 -- 1,000 where it is not said
 abbrev pub top_of : Option (List ℕ) → Result ℕ OptionRefused
-top_of None = Ok 1000
+top_of None = Ok MOST_ROWS
 top_of (Some text) = ok_or (read_top text) BadTop
 
 -- ---- where the page begins

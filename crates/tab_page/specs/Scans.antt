@@ -1,4 +1,4 @@
--- How the rows of a page are walked through.
+-- How the rows of a page are gone through.
 use Rattle.std.specs.Prelude.{◌≡◌, ℕ, List, Bool, true, false, ◌&&◌, ◌==◌, AllPairs, filter, take, drop, if◌then◌else◌}
 use Rattle.tab_keys.specs.Order.{key_lt}
 use Rattle.tab_keys.specs.declared.keys.Key.{Key}

@@ -2,15 +2,22 @@
 //! next one begins.
 #![tactic(auto)]
 
-mod query_options;
+mod page_rule;
 mod pages;
 mod queries;
-mod page_rule;
+mod query_options;
 mod selects;
 mod tokens;
 
+pub use page_rule::{page, page_prefix, start_key};
 pub use pages::{Options, Page, PageRows};
 pub use queries::{OptionRefused, read_top, top_is_a_decimal};
-pub use page_rule::{page, page_prefix, start_key};
+pub use query_options::values_of;
 pub use selects::{Names, Select};
 pub use tokens::{Token, TokenRefused, tokens_have_one_spelling};
+
+/// The most rows that a page may have, and how many it may have where its query does not say.
+pub const MOST_ROWS: u16 = 1_000;
+
+/// The most rows that a page looks at.
+pub const MOST_LOOKED_AT: usize = 10_000;

@@ -1,3 +1,5 @@
+//! Which rows a page has and where the next one begins: the Table service REST reference, "Query Timeout and Pagination", over
+//! rows that lie in a span of keys.
 ghost use Rattle.std.specs.Prelude.{◌≡◌, ◌≤◌, ◌+◌, [], ◌∷◌, ◌++◌, filter, slice_get, unwrap_or, All, IsTrue, IfOk, OnOk};
 ghost use Rattle.std.specs.Option.{option_copied, option_to_list};
 ghost use Rattle.tab_keys.specs.Spans.{has};
@@ -6,15 +8,12 @@ ghost use Rattle.tab_page.specs.Pages.{start_key, page_below, looked_at, key_at,
 ghost use Rattle.tab_page.specs.Prefixes.{HasPrefixLength};
 ghost use Rattle.tab_page.specs.Scans.{is_within, rows_at, rows_within, count_of, matches_of, rest_of, AreInOneRun};
 
-use crate::{Options, Page, PageRows};
+use crate::{MOST_LOOKED_AT, Options, Page, PageRows};
 use std::alloc::Global;
 use std::sync::ledger::Ledger;
 use tab_filter::Window;
 use tab_keys::{Bound, Key, KeyText, Memory, Span};
 use tab_rows::{Cursor, Row, Rows, Steps};
-
-/// The rows that a page looks at, at the most.
-const MOST_LOOKED_AT: usize = 10_000;
 
 /// The key at which a page of the table begins to look.
 #[tactic(auto, unfolding(crate::specs::Pages::start_key))]
@@ -173,10 +172,8 @@ fn add_match(
     if !matches(options, row) {
         return Ok(());
     }
-    match found.push(row.try_copy(alloc)?) {
-        Ok(()) => Ok(()),
-        Err(_) => Err(Memory),
-    }
+    found.push(row.try_copy(alloc)?)?;
+    Ok(())
 }
 
 fn matches(options: &Options, row: &Row) -> bool

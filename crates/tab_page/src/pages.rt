@@ -1,3 +1,4 @@
+//! What a query asks for, and the page that answers it (the Table service REST reference, "Query Entities").
 ghost use Rattle.std.specs.Prelude.{◌≡◌, IfOk};
 
 use crate::Select;
@@ -12,13 +13,16 @@ use tab_rows::Row;
 pub struct Options {
     /// The filter that its rows pass; without one all do.
     pub filter: Option<Filter>,
+    /// Which of their properties are written.
     pub select: Select,
+    /// The most rows that the page may have, 1 to 1,000 where a query was read.
     pub top: u16,
     /// The partition key and the row key at which the page begins, where that is not the table's beginning.
     pub start: Option<(KeyText, KeyText)>,
 }
 
 impl Options {
+    /// A copy, or that no memory was found for it.
     pub fn try_copy(&self, alloc: Global) -> Result<Options, Memory>
         ensures { IfOk result (λ copy. copy ≡ self.now) }
     {
@@ -47,26 +51,27 @@ impl Model for PageRows {
 }
 
 impl PageRows {
+    /// The rows, in the order in which they stand.
     pub fn new(rows: Vec<Row>) -> PageRows
         ensures { result ≡ rows.items }
     {
         PageRows { rows }
     }
 
+    /// The rows, lent.
     pub fn as_slice(&self) -> &[Row]
         ensures rows { result.now ≡ self.now }
     {
         self.rows.as_slice()
     }
 
+    /// A copy, row by row, or that no memory was found for it.
     pub fn try_copy(&self, alloc: Global) -> Result<PageRows, Memory>
         ensures { IfOk result (λ copy. copy ≡ self.now) }
     {
         let mut rows = Vec::new(alloc);
         for row in &self.rows {
-            if rows.push(row.try_copy(alloc)?).is_err() {
-                return Err(Memory);
-            }
+            rows.push(row.try_copy(alloc)?)?;
         }
         Ok(PageRows { rows })
     }
@@ -82,6 +87,7 @@ pub struct Page {
 }
 
 impl Page {
+    /// A copy with its rows, or that no memory was found for it.
     pub fn try_copy(&self, alloc: Global) -> Result<Page, Memory>
         ensures { IfOk result (λ copy. copy ≡ self.now) }
     {

@@ -1,18 +1,19 @@
-ghost use Rattle.std.specs.Prelude.{◌≡◌, ◌≢◌, ◌≤◌, Ok, Err, IfOk, IfSome, MatchResult};
+//! The options in the query of an address (`$filter`, `$select`, `$top` and the two tokens of a continuation), as the Table
+//! service REST reference has them in "Query Entities", "Querying Tables and Entities" and "Query Timeout and Pagination".
+ghost use Rattle.std.specs.Prelude.{◌≡◌, ◌≤◌, IfOk, IfSome, MatchResult};
 ghost use Rattle.std.specs.Cow.{cow_str_bytes};
+ghost use Rattle.tab_keys.specs.Results.{Gives};
 ghost use Rattle.tab_page.specs.Queries.{read_options, read_select, decoded, read_top, with_digit, with_digits, top_of, token_of, row_of, start_of, filter_of, select_of, options_of, ReadsDecimals};
 ghost use Rattle.tab_page.specs.QueryOptions.{text_of};
+ghost use Rattle.tab_page.specs.declared.TheConstants.{MOST_ROWS};
 
 use crate::query_options::options_in;
-use crate::{Options, Select, Token, TokenRefused};
+use crate::{MOST_ROWS, Options, Select, Token, TokenRefused};
 use form_urlencoded::decode;
 use std::alloc::Global;
 use std::borrow::CowStr;
 use tab_filter::{Filter, FilterRefused, parse};
 use tab_keys::KeyText;
-
-/// The most rows that a page may have, and how many it may have where the query does not say.
-const MOST_ROWS: u16 = 1000;
 
 /// Why the options of a query are refused.
 #[derive(Clone, Copy, Debug, PartialEq, Eq)]
@@ -30,12 +31,10 @@ pub enum OptionRefused {
 }
 
 impl Options {
-    #[tactic(auto, unfolding(crate::specs::Queries::read_options, crate::specs::QueryOptions::options_in))]
     /// What the query of an address asks for.
+    #[tactic(auto, unfolding(crate::specs::Queries::read_options, crate::specs::QueryOptions::options_in))]
     pub fn read(alloc: Global, query: &str) -> Result<Options, OptionRefused>
-        ensures { MatchResult result
-            (λ options. read_options query.now ≡ Ok options)
-            (λ why. why ≢ OptionRefused.Memory → read_options query.now ≡ Err why) }
+        ensures { Gives OptionRefused.Memory (λ options. options) result (read_options query.now) }
     {
         let Ok(known) = options_in(alloc, query.as_bytes()) else {
             return Err(OptionRefused::Memory);
@@ -50,12 +49,10 @@ impl Options {
 }
 
 impl Select {
-    #[tactic(auto, unfolding(crate::specs::Queries::read_select, crate::specs::QueryOptions::options_in))]
     /// The properties that the query of an address asks for; its other options are not looked at.
+    #[tactic(auto, unfolding(crate::specs::Queries::read_select, crate::specs::QueryOptions::options_in))]
     pub fn read(alloc: Global, query: &str) -> Result<Select, OptionRefused>
-        ensures { MatchResult result
-            (λ select. read_select query.now ≡ Ok select)
-            (λ why. why ≢ OptionRefused.Memory → read_select query.now ≡ Err why) }
+        ensures { Gives OptionRefused.Memory (λ select. select) result (read_select query.now) }
     {
         let Ok(known) = options_in(alloc, query.as_bytes()) else {
             return Err(OptionRefused::Memory);
@@ -73,12 +70,8 @@ fn options_of(
     partition: Option<&[u8]>,
     row: Option<&[u8]>,
 ) -> Result<Options, OptionRefused>
-    ensures { MatchResult result
-        (λ options. options_of (text_of filter.entry) (text_of select.entry) (text_of top.entry) (text_of partition.entry) (text_of row.entry)
-        ≡ Ok options)
-        (λ why. why ≢ OptionRefused.Memory
-        → options_of (text_of filter.entry) (text_of select.entry) (text_of top.entry) (text_of partition.entry) (text_of row.entry)
-        ≡ Err why) }
+    ensures { Gives OptionRefused.Memory (λ options. options) result
+        (options_of (text_of filter.entry) (text_of select.entry) (text_of top.entry) (text_of partition.entry) (text_of row.entry)) }
 {
     let top = top_of(alloc, top)?;
     let start = start_of(alloc, partition, row)?;
@@ -101,9 +94,7 @@ fn text(alloc: Global, value: &[u8]) -> Result<CowStr<'_>, OptionRefused>
 }
 
 fn top_of(alloc: Global, top: Option<&[u8]>) -> Result<u16, OptionRefused>
-    ensures { MatchResult result
-        (λ most. top_of (text_of top.entry) ≡ Ok most)
-        (λ why. why ≢ OptionRefused.Memory → top_of (text_of top.entry) ≡ Err why) }
+    ensures { Gives OptionRefused.Memory (λ most. most) result (top_of (text_of top.entry)) }
 {
     let Some(top) = top else {
         return Ok(MOST_ROWS);
@@ -125,7 +116,7 @@ pub fn read_top(text: &[u8]) -> Option<u16>
 }
 
 fn with_digits(n: u16, digits: &[u8]) -> Option<u16>
-    requires { n ≤ 1000 }
+    requires { n ≤ MOST_ROWS }
     ensures { result ≡ with_digits n digits.now }
 {
     match digits {
@@ -135,9 +126,9 @@ fn with_digits(n: u16, digits: &[u8]) -> Option<u16>
 }
 
 fn with_digit(n: u16, digit: u8) -> Option<u16>
-    requires { n ≤ 1000 }
+    requires { n ≤ MOST_ROWS }
     ensures number { result ≡ with_digit n digit }
-    ensures small { IfSome result (λ m. m ≤ 1000) }
+    ensures small { IfSome result (λ m. m ≤ MOST_ROWS) }
 {
     if !digit.is_ascii_digit() {
         return None;
@@ -151,9 +142,7 @@ fn start_of(
     partition: Option<&[u8]>,
     row: Option<&[u8]>,
 ) -> Result<Option<(KeyText, KeyText)>, OptionRefused>
-    ensures { MatchResult result
-        (λ start. start_of (text_of partition.entry) (text_of row.entry) ≡ Ok start)
-        (λ why. why ≢ OptionRefused.Memory → start_of (text_of partition.entry) (text_of row.entry) ≡ Err why) }
+    ensures { Gives OptionRefused.Memory (λ start. start) result (start_of (text_of partition.entry) (text_of row.entry)) }
 {
     match (partition, row) {
         (None, None) => Ok(None),
@@ -167,9 +156,7 @@ fn start_of(
 }
 
 fn row_of(alloc: Global, row: Option<&[u8]>) -> Result<KeyText, OptionRefused>
-    ensures { MatchResult result
-        (λ rk. row_of (text_of row.entry) ≡ Ok rk)
-        (λ why. why ≢ OptionRefused.Memory → row_of (text_of row.entry) ≡ Err why) }
+    ensures { Gives OptionRefused.Memory (λ rk. rk) result (row_of (text_of row.entry)) }
 {
     match row {
         Some(row) => token_of(alloc, row),
@@ -178,9 +165,7 @@ fn row_of(alloc: Global, row: Option<&[u8]>) -> Result<KeyText, OptionRefused>
 }
 
 fn token_of(alloc: Global, token: &[u8]) -> Result<KeyText, OptionRefused>
-    ensures { MatchResult result
-        (λ key. token_of (decoded token.now) ≡ Ok key)
-        (λ why. why ≢ OptionRefused.Memory → token_of (decoded token.now) ≡ Err why) }
+    ensures { Gives OptionRefused.Memory (λ key. key) result (token_of (decoded token.now)) }
 {
     match Token::read(alloc, text(alloc, token)?.as_str()) {
         Ok(key) => Ok(key),
@@ -190,9 +175,7 @@ fn token_of(alloc: Global, token: &[u8]) -> Result<KeyText, OptionRefused>
 }
 
 fn filter_of(alloc: Global, filter: Option<&[u8]>) -> Result<Option<Filter>, OptionRefused>
-    ensures { MatchResult result
-        (λ tree. filter_of (text_of filter.entry) ≡ Ok tree)
-        (λ why. why ≢ OptionRefused.Memory → filter_of (text_of filter.entry) ≡ Err why) }
+    ensures { Gives OptionRefused.Memory (λ tree. tree) result (filter_of (text_of filter.entry)) }
 {
     let Some(filter) = filter else {
         return Ok(None);

@@ -1,11 +1,14 @@
-ghost use Rattle.std.specs.Prelude.{◌≡◌, [], ◌∷◌, IfOk, MatchResult, Ok, Err, if◌then◌else◌, bytes_eq};
+//! The pairs of a query, gone through once: how often each known option stands there, and the values of any one word. A pair is
+//! decoded as `application/x-www-form-urlencoded` (the URL Standard, section 5.1).
+ghost use Rattle.std.specs.Prelude.{◌≡◌, [], ◌∷◌, ◌++◌, IfOk, OnOk, MatchResult, Ok, Err, if◌then◌else◌, bytes_eq};
 ghost use Rattle.form_urlencoded.specs.Form.{raw_pairs};
-ghost use Rattle.tab_page.specs.Queries.{decoded};
+ghost use Rattle.tab_page.specs.Queries.{decoded, values};
 ghost use Rattle.tab_page.specs.QueryOptions.{text_of, seen_view, seen, options_view, no_options, with_pair, options_in};
 
 use crate::OptionRefused;
 use form_urlencoded::{decode, raw_pairs};
 use std::alloc::Global;
+use tab_edm::TextValue;
 use tab_keys::Memory;
 
 /// How often an option stands in a query, and its value as it stands there.
@@ -79,7 +82,12 @@ impl<'a> QueryOptions<'a> {
         }
     }
 
-    fn with_pair(self, alloc: Global, name: &[u8], value: &'a [u8]) -> Result<QueryOptions<'a>, Memory>
+    fn with_pair(
+        self,
+        alloc: Global,
+        name: &[u8],
+        value: &'a [u8],
+    ) -> Result<QueryOptions<'a>, Memory>
         ensures { IfOk result (λ known. options_view known
             ≡ with_pair (options_view self.entry) (decoded name.now) (decoded value.entry.now)) }
     {
@@ -99,4 +107,38 @@ pub fn options_in(alloc: Global, query: &[u8]) -> Result<QueryOptions<'_>, Memor
         known = known.with_pair(alloc, name, value)?;
     }
     Ok(known)
+}
+
+/// The values that a query gives for a word, decoded, in their order. Only those of the word are copied.
+pub fn values_of(alloc: Global, word: &str, query: &str) -> Result<Vec<TextValue>, Memory>
+    ensures { IfOk result (λ found. found.items ≡ values word.now (raw_pairs query.now)) }
+{
+    let mut found = Vec::new(alloc);
+    for (name, value) in raw_pairs(query.as_bytes()) {
+        add_value(alloc, &mut found, word, name, value)?;
+    }
+    Ok(found)
+}
+
+/// Adds the value of a pair that is named by the word.
+fn add_value(
+    alloc: Global,
+    found: &mut Vec<TextValue>,
+    word: &str,
+    name: &[u8],
+    value: &[u8],
+) -> Result<(), Memory>
+    ensures { OnOk result (found.new.items ≡ found.old.items ++ values word.now ((name.now, value.now) ∷ [])) }
+{
+    let Ok(name) = decode(alloc, name) else {
+        return Err(Memory);
+    };
+    if name.as_str() != word {
+        return Ok(());
+    }
+    let Ok(value) = decode(alloc, value) else {
+        return Err(Memory);
+    };
+    found.push(TextValue::new(String::from_str(alloc, value.as_str())?))?;
+    Ok(())
 }

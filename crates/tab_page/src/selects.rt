@@ -1,3 +1,5 @@
+//! Which of their properties a query asks for (`$select`: OData 3.0, URI Conventions, "Select System Query Option"; the Table
+//! service takes names alone, and no paths).
 ghost use Rattle.std.specs.Prelude.{◌≡◌, [], ◌∷◌, ◌++◌, IfOk, OnOk, bytes_eq, filter, map, reverse, string_bytes};
 ghost use Rattle.std.specs.List.{list_any};
 ghost use Rattle.tab_page.specs.Queries.{selection, asks_for_all, names_in, is_name, trimmed, without_spaces};
@@ -21,18 +23,21 @@ impl Model for Names {
 }
 
 impl Names {
+    /// The names, in the order in which they stand.
     pub fn new(texts: Vec<String>) -> Names
         ensures { result ≡ map string_bytes texts.items }
     {
         Names { texts }
     }
 
+    /// Whether one of them is this name; case counts.
     pub fn contains(&self, name: &str) -> bool
         ensures { result ≡ list_any (λ other. bytes_eq other name.now) self.now }
     {
         has_text(self.texts.as_slice(), name)
     }
 
+    /// A copy, or that no memory was found for it.
     pub fn try_copy(&self, alloc: Global) -> Result<Names, Memory>
         ensures { IfOk result (λ copy. copy ≡ self.now) }
     {
@@ -52,12 +57,7 @@ fn copied_texts(alloc: Global, texts: &[String]) -> Result<Vec<String>, Memory>
 {
     let mut copies = Vec::new(alloc);
     for text in texts {
-        let Ok(copy) = String::from_str(alloc, text.as_str()) else {
-            return Err(Memory);
-        };
-        if copies.push(copy).is_err() {
-            return Err(Memory);
-        }
+        copies.push(String::from_str(alloc, text.as_str())?)?;
     }
     Ok(copies)
 }
@@ -72,6 +72,7 @@ pub enum Select {
 }
 
 impl Select {
+    /// A copy, or that no memory was found for it.
     pub fn try_copy(&self, alloc: Global) -> Result<Select, Memory>
         ensures { IfOk result (λ copy. copy ≡ self.now) }
     {
@@ -83,7 +84,7 @@ impl Select {
 }
 
 impl Select {
-    /// What the value of `$select` asks for.
+    /// What the decoded value of `$select` asks for.
     pub(crate) fn named(alloc: Global, text: &str) -> Result<Select, Memory>
         ensures { IfOk result (λ select. select ≡ selection (names_in text.now)) }
     {
@@ -120,13 +121,8 @@ fn add_name(alloc: Global, names: &mut Vec<String>, name: &str) -> Result<(), Me
     if name.is_empty() {
         return Ok(());
     }
-    let Ok(copy) = String::from_str(alloc, name) else {
-        return Err(Memory);
-    };
-    match names.push(copy) {
-        Ok(()) => Ok(()),
-        Err(_) => Err(Memory),
-    }
+    names.push(String::from_str(alloc, name)?)?;
+    Ok(())
 }
 
 fn trimmed(text: &str) -> &str

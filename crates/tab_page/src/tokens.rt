@@ -1,3 +1,5 @@
+//! Tokens, which name a key in a continuation: `1.` and the key's bytes in Base64 for addresses without padding (RFC 4648,
+//! section 5). The service's tokens are opaque in the REST reference ("Query Timeout and Pagination"); this is their spelling here.
 ghost use Rattle.std.specs.Prelude.{◌≡◌, ◌≢◌, IfOk, MatchResult, Some, None, map, vec_items, string_bytes};
 ghost use Rattle.std.specs.Option.{option_copied, option_map};
 ghost use Rattle.base64.specs.Engines.{url_safe_no_pad};
@@ -23,14 +25,12 @@ pub enum TokenRefused {
 pub struct Token;
 
 impl Token {
-    #[tactic(auto, unfolding(crate::specs::Tokens::token_text))]
     /// The token of a key.
+    #[tactic(auto, unfolding(crate::specs::Tokens::token_text))]
     pub fn text(alloc: Global, key: &KeyText) -> Result<String, Memory>
         ensures { IfOk result (λ text. string_bytes text ≡ token_text key.now) }
     {
-        let Ok(mut text) = String::from_str(alloc, "1.") else {
-            return Err(Memory);
-        };
+        let mut text = String::from_str(alloc, "1.")?;
         match URL_SAFE_NO_PAD.encode_string(key.as_str().as_bytes(), &mut text) {
             Ok(()) => Ok(text),
             Err(_) => Err(Memory),

@@ -11,7 +11,7 @@ use Rattle.tab_http.specs.declared.messages.Message.{Message}
 use Rattle.tab_ops.specs.declared.ops.Match.{Match}
 use Rattle.tab_ops.specs.declared.ops.Op.TheVariants.{Insert, Delete}
 use Rattle.tab_json.specs.declared.bodies.BodyEntity.{BodyEntity}
-use Rattle.tab_ops.specs.Groups.{ItemView, group_refusal, unless_refused as group_unless}
+use Rattle.tab_ops.specs.Groups.{ItemView, group_refusal, items_or_refusal}
 use Rattle.tab_ops.specs.declared.groups.GroupRefused.{GroupRefused}
 use Rattle.tab_batch.specs.Refusals.{Answer, IsBatchAnswer}
 use Rattle.tab_service.specs.Targets.{query_of}
@@ -271,7 +271,7 @@ abbrev KeepsBatch : List ℕ → Result Request PartRefusal → Type 0
 KeepsBatch account found = IfOk found (λ request. IsInForm account request)
 
 group_keeps : (account : List ℕ) (minimal : Bool) (items : List ItemView) (parts : List PartForm) (why : Option GroupRefused) → ArePartsOf items parts
-    → KeepsBatch account (request_for account minimal parts (group_unless items why))
+    → KeepsBatch account (request_for account minimal parts (items_or_refusal items why))
 group_keeps account minimal items parts None are = record { of_account = refl; suits = are }
 group_keeps account minimal items parts (Some why) are = tt
 

@@ -1,5 +1,6 @@
 use Rattle.std.proofs.Common.{◌∙◌}
-use Rattle.tab_batch.proofs.Exits.{passed_on, told}
+use Rattle.tab_http.proofs.Exits.{passed_on}
+use Rattle.tab_batch.proofs.Exits.{told}
 use Rattle.tab_batch.specs.Parts.{ranges_of}
 use Rattle.tab_batch.specs.Reading.{Tells}
 use Rattle.tab_batch.proofs.bodies.ranges_of.Goals as goal

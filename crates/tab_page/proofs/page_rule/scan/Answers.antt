@@ -5,7 +5,7 @@ use Rattle.tab_rows.specs.Rows.{RowView}
 use Rattle.tab_filter.specs.Windows.{WindowView}
 use Rattle.tab_page.specs.Pages.{matches, most_looked_at}
 use Rattle.tab_page.specs.Scans.{is_within, AreInOneRun}
-use Rattle.tab_page.proofs.ScanLaws.{Walk, Ended, passed, looked_at_row, ended_last, run_ends, run_rest, Stepped, stepped_over, stepped_past, compared}
+use Rattle.tab_page.proofs.ScanLaws.{ScanSoFar, Ended, passed, looked_at_row, ended_last, run_ends, run_rest, Stepped, stepped_over, stepped_past, compared}
 use Rattle.tab_page.proofs.page_rule.scan.Goals as goal
 use Rattle.tab_page.proofs.page_rule.scan.Goals.{Then-lt}
 
@@ -17,7 +17,7 @@ ended_at g c =
     ended_last (is_within start.table all) (matches c.args.options.now) c.args.options.now.top most_looked_at _ c.loop-row.cursor c.loop-row.found.items c.loop-row.looked
     (ap (filter (is_within start.table all)) c.in-Some.ensures.row
     ∙ run_ends start all c.in-Some.row.now c.next.new.self (subst (AreInOneRun start all) c.in-Some.ensures.row c.loop-row.invariant.run) above (sym c.is_within.ensures ∙ c.if-not-is_within.true))
-    c.loop-row.invariant.walk
+    c.loop-row.invariant.scan
 
 pub returns-then-lt-clause-found : goal.returns-then-lt-clause-found
 returns-then-lt-clause-found g c = (ended_at g c).found_all
@@ -33,8 +33,8 @@ loop-row-preserved-then-not-is_within g c =
     let low : key_lt start c.in-Some.row.now.key ≡ false = compared start _ c.in-Some.row.now c.lt.result false c.row.view_is c.lt.ensures c.if-lt.false in
     record {
       run = run_rest start all c.in-Some.row.now c.next.new.self run;
-      walk = passed (is_within start.table all) (matches c.args.options.now) c.args.options.now.top most_looked_at _ c.next.new.self c.loop-row.found.items c.loop-row.looked c.in-Some.row.now (sym c.is_within.ensures ∙ c.if-not-is_within.true)
-          (subst (λ (rows : List RowView). Walk (is_within start.table all) (matches c.args.options.now) c.args.options.now.top most_looked_at (filter (is_within start.table all) c.args.cursor.now) rows c.loop-row.found.items c.loop-row.looked) c.in-Some.ensures.row c.loop-row.invariant.walk);
+      scan = passed (is_within start.table all) (matches c.args.options.now) c.args.options.now.top most_looked_at _ c.next.new.self c.loop-row.found.items c.loop-row.looked c.in-Some.row.now (sym c.is_within.ensures ∙ c.if-not-is_within.true)
+          (subst (λ (rows : List RowView). ScanSoFar (is_within start.table all) (matches c.args.options.now) c.args.options.now.top most_looked_at (filter (is_within start.table all) c.args.cursor.now) rows c.loop-row.found.items c.loop-row.looked) c.in-Some.ensures.row c.loop-row.invariant.scan);
       steps = stepped_past start all c.in-Some.row.now c.next.new.self _ c.loop-row.steps c.next.new.steps c.loop-row.looked c.in-Some.ensures.counted low run
           (subst (λ (rows : List RowView). Stepped start all rows c.args.steps.now c.loop-row.steps c.loop-row.looked) c.in-Some.ensures.row c.loop-row.invariant.steps);
     }
@@ -44,13 +44,13 @@ loop-row-preserved g c =
     let start : Key = c.args.start.now in
     let all : WindowView = c.args.window.now in
     let run : AreInOneRun start all (c.in-Some.row.now ∷ c.next.new.self) = subst (AreInOneRun start all) c.in-Some.ensures.row c.loop-row.invariant.run in
-    let walk = subst (λ (rows : List RowView). Walk (is_within start.table all) (matches c.args.options.now) c.args.options.now.top most_looked_at (filter (is_within start.table all) c.args.cursor.now) rows c.loop-row.found.items c.loop-row.looked) c.in-Some.ensures.row c.loop-row.invariant.walk in
-    let few = c.loop-row.invariant.walk.few in
+    let scan = subst (λ (rows : List RowView). ScanSoFar (is_within start.table all) (matches c.args.options.now) c.args.options.now.top most_looked_at (filter (is_within start.table all) c.args.cursor.now) rows c.loop-row.found.items c.loop-row.looked) c.in-Some.ensures.row c.loop-row.invariant.scan in
+    let few = c.loop-row.invariant.scan.few in
     let some : c.loop-row.looked < most_looked_at = omega (arith, c.if-looked-eq-MOST_LOOKED_AT.false) in
     let room : length c.loop-row.found.items < c.args.options.now.top = omega (arith, c.if-len-top.false, c.len.ensures, c.from-top.ensures, c.loop-row.found.ok) in
     record {
       run = run_rest start all c.in-Some.row.now c.next.new.self run;
-      walk = looked_at_row (is_within start.table all) (matches c.args.options.now) c.args.options.now.top most_looked_at _ c.next.new.self c.loop-row.found.items c.add_match.new.found.items c.loop-row.looked c.in-Some.row.now (sym c.is_within.ensures ∙ c.if-not-is_within.false) some room c.in_ok-add_match.ensures walk;
+      scan = looked_at_row (is_within start.table all) (matches c.args.options.now) c.args.options.now.top most_looked_at _ c.next.new.self c.loop-row.found.items c.add_match.new.found.items c.loop-row.looked c.in-Some.row.now (sym c.is_within.ensures ∙ c.if-not-is_within.false) some room c.in_ok-add_match.ensures scan;
       steps = stepped_over start all c.in-Some.row.now c.next.new.self _ c.loop-row.steps c.next.new.steps c.loop-row.looked c.in-Some.ensures.counted run
           (subst (λ (rows : List RowView). Stepped start all rows c.args.steps.now c.loop-row.steps c.loop-row.looked) c.in-Some.ensures.row c.loop-row.invariant.steps);
     }

@@ -2,7 +2,7 @@ use Rattle.std.proofs.Common.{◌∙◌, ap}
 use Rattle.serde_json.specs.Written.{compact_text, has_float}
 use Rattle.tab_json.specs.Tables.{tables_json}
 use Rattle.tab_json.proofs.Floatless.{floatless-tables_data}
-use Rattle.tab_json.proofs.tables.tables_text.Goals as goal
+use Rattle.tab_json.proofs.tables.write_tables.Goals as goal
 
 pub returns : goal.returns
 unfolding tables_json
