@@ -19,7 +19,8 @@ use Rattle.tab_rows.proofs.RowLaws.{All-row_at}
 use Rattle.tab_page.specs.Pages.{matches}
 use Rattle.tab_page.specs.declared.pages.Options.{Options}
 use Rattle.tab_page.proofs.OnePageLaws.{OnePage, page_of-one, pair_lt as pairs_lt, pair_of, start_pair, key_lt_in_table}
-use Rattle.tab_page.proofs.RisingLists.{AllPairs-append, All-from_each, Contains-here, Contains-there}
+use Rattle.tab_rows.proofs.Lists.{AllPairs-append}
+use Rattle.tab_page.proofs.RisingLists.{All-from_each, Contains-here, Contains-there}
 use Rattle.tab_history.specs.World.{IsWorld, table_of}
 use Rattle.tab_history.specs.Legality.{State, after, after_all, Allows, Legal}
 use Rattle.tab_history.specs.Followed.{Asked, Leg, Query, resolve_of, page_entry, entries_from, entries_of, rows_from, GoesOn, IsFollowedFrom, at_first, IsUnwritten, pair_lt, first_key, IsRight, AreRight, FollowedWell}

@@ -12,7 +12,8 @@ use Rattle.tab_keys.specs.Order.{name_cmp}
 use Rattle.tab_keys.specs.TableNames.{folded}
 use Rattle.tab_keys.specs.TotalOrders.{name_cmp_total}
 use Rattle.tab_keys.proofs.OrderLaws.{eq_between, lt_transitive}
-use Rattle.tab_page.proofs.RisingLists.{AllPairs-nil, AllPairs-head, AllPairs-tail}
+use Rattle.tab_rows.proofs.Lists.{AllPairs-head, AllPairs-tail}
+use Rattle.tab_page.proofs.RisingLists.{AllPairs-nil}
 use Rattle.tab_history.specs.World.{Named, table_of, with_name, without_name}
 
 -- one name is below another

@@ -25,7 +25,7 @@ use Rattle.tab_keys.specs.Results.{◌>>=◌}
 use Rattle.tab_ops.specs.Changes.{outcome_of, settled, rows_after, group_outcome, group_keys}
 use Rattle.tab_ops.specs.Laws.{row_made, IsKeptOrPut, SawRowsBefore, IsRefusedByItem}
 use Rattle.tab_ops.specs.declared.groups.OpRefused.{OpRefused}
-use Rattle.tab_ops.proofs.Lists.{AllPairs-head, AllPairs-tail}
+use Rattle.tab_rows.proofs.Lists.{AllPairs-head, AllPairs-tail}
 
 -- ---- one item
 

@@ -1,4 +1,4 @@
--- Filters of filters, and pairs of elements of two lists put together.
+-- Filters of filters.
 use Rattle.std.proofs.Common.{◌≡◌, zero, suc, List, [], ◌∷◌, ◌++◌, Bool, true, false, ◌&&◌, filter, refl, sym, ap, ◌∙◌, arith}
 use Rattle.std.specs.Prelude.{All, AllPairs}
 use Rattle.std.proofs.lemmas.List.Elements.{All-head, All-tail, All-append, filter_agree}
@@ -18,16 +18,3 @@ filter_and {X} p r (x ∷ xs) = by_test (filter_and p r xs) (r x) (p x) refl ref
 pub filters_agree : {X : Type 0} (p r s t : X → Bool) → ((x : X) → (r x && p x) ≡ (t x && s x)) → (xs : List X) → filter p (filter r xs) ≡ filter s (filter t xs)
 filters_agree p r s t same xs =
     filter_and p r xs ∙ (filter_agree (λ x. r x && p x) (λ x. t x && s x) same xs ∙ sym (filter_and s t xs))
-
-module _ {X : Type 0} (R : X → X → Type 0) where
-  pub AllPairs-head : (x : X) (xs : List X) → AllPairs R (x ∷ xs) → All (R x) xs
-  AllPairs-head x xs h k d within = h zero (suc k) d (omega arith) (omega arith)
-
-  pub AllPairs-tail : (x : X) (xs : List X) → AllPairs R (x ∷ xs) → AllPairs R xs
-  AllPairs-tail x xs h i j d below within = h (suc i) (suc j) d (omega arith) (omega arith)
-
-  pub AllPairs-append : (xs ys : List X) → AllPairs R xs → AllPairs R ys → All (λ x. All (R x) ys) xs → AllPairs R (xs ++ ys)
-  AllPairs-append [] ys h k across = k
-  AllPairs-append (x ∷ xs) ys h k across =
-      AllPairs-cons R x (xs ++ ys) (All-append (R x) xs ys (AllPairs-head x xs h) (All-head (λ y. All (R y) ys) x xs across))
-      (AllPairs-append xs ys (AllPairs-tail x xs h) k (All-tail (λ y. All (R y) ys) x xs across))

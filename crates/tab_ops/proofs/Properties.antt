@@ -18,7 +18,8 @@ use Rattle.tab_edm.specs.declared.values.Property.{Property}
 use Rattle.tab_edm.proofs.Order.{not_below_itself}
 use Rattle.tab_ops.specs.Changes.{with_property, merged}
 use Rattle.tab_ops.specs.Merges.{is_kept}
-use Rattle.tab_ops.proofs.Lists.{filters_agree, AllPairs-head, AllPairs-tail, AllPairs-append}
+use Rattle.tab_rows.proofs.Lists.{AllPairs-head, AllPairs-tail, AllPairs-append}
+use Rattle.tab_ops.proofs.Lists.{filters_agree}
 
 -- ---- names
 

@@ -23,7 +23,8 @@ use Rattle.tab_filter.proofs.WindowEdges.{starts_low, reaches_up_to}
 use Rattle.tab_page.specs.Pages.{seen, passes, matches, window_for, window, key_at, later_key, corner, start_key, lesser, end_above, is_listed, next_of, listed, page_up_to, page_of, page_below, looked_at}
 use Rattle.tab_page.specs.declared.pages.Options.{Options}
 use Rattle.tab_page.specs.declared.pages.Page.{Page}
-use Rattle.tab_page.proofs.RisingLists.{Contains-here, Contains-cons_cases, Contains-nil, Contains-filter, Contains-filtered, Contains-cut, Contains-take, Contains-drop, All-from_each, AllPairs-head, AllPairs-front, AllPairs-back, AllPairs-across, AllPairs-weaker}
+use Rattle.tab_rows.proofs.Lists.{AllPairs-head}
+use Rattle.tab_page.proofs.RisingLists.{Contains-here, Contains-cons_cases, Contains-nil, Contains-filter, Contains-filtered, Contains-cut, Contains-take, Contains-drop, All-from_each, AllPairs-front, AllPairs-back, AllPairs-across, AllPairs-weaker}
 
 -- ---- pairs
 

@@ -15,7 +15,8 @@ use Rattle.tab_rows.specs.Rows.{RowView, AreRising}
 use Rattle.tab_filter.specs.Windows.{WindowView}
 use Rattle.tab_page.specs.Pages.{passes, matches, window, key_at, start_key, end_above, is_listed, next_of, prefix_length, listed, page_up_to, page_of, page_below, looked_at, most_looked_at}
 use Rattle.tab_page.specs.declared.pages.Options.{Options}
-use Rattle.tab_page.proofs.RisingLists.{Contains-here, Contains-there, Contains-cons_cases, Contains-nil, Contains-filter, Contains-filtered, Contains-take, All-from_each, AllPairs-append, AllPairs-front, no_longer}
+use Rattle.tab_rows.proofs.Lists.{AllPairs-append}
+use Rattle.tab_page.proofs.RisingLists.{Contains-here, Contains-there, Contains-cons_cases, Contains-nil, Contains-filter, Contains-filtered, Contains-take, All-from_each, AllPairs-front, no_longer}
 use Rattle.tab_page.proofs.OnePageLaws.{pair_of, key_lt_in_table, start_after, end_above-behind, IsListed, listed_parts, listed_from, Rises, at_end, next_below, list_rises, front_lists, back_lists}
 
 -- ---- how much a page leaves

@@ -4,6 +4,7 @@ use Rattle.std.proofs.lemmas.Bool.{true≢false}
 use Rattle.std.proofs.lemmas.List.{take-append-drop}
 use Rattle.std.proofs.lemmas.List.Elements.{All-nil, All-cons, All-head, All-tail, All-append, All-contains, filter_passes, Contains-append_left, Contains-append_right, Contains-append_cases}
 use Rattle.std.proofs.lemmas.List.Kept.{AllPairs-cons}
+use Rattle.tab_rows.proofs.Lists.{AllPairs-head, AllPairs-tail, AllPairs-append}
 
 -- ---- lists whose elements rise
 
@@ -62,35 +63,23 @@ module _ {X : Type 0} (R : X → X → Type 0) where
   pub AllPairs-nil : AllPairs R []
   AllPairs-nil i j d below within = absurd (omega arith)
 
-  pub AllPairs-head : (x : X) (xs : List X) → AllPairs R (x ∷ xs) → All (R x) xs
-  AllPairs-head x xs h k d within = h zero (suc k) d (omega arith) (omega arith)
-
-  pub AllPairs-tail : (x : X) (xs : List X) → AllPairs R (x ∷ xs) → AllPairs R xs
-  AllPairs-tail x xs h i j d below within = h (suc i) (suc j) d (omega arith) (omega arith)
-
-  pub AllPairs-append : (xs ys : List X) → AllPairs R xs → AllPairs R ys → All (λ x. All (R x) ys) xs → AllPairs R (xs ++ ys)
-  AllPairs-append [] ys h k across = k
-  AllPairs-append (x ∷ xs) ys h k across =
-      AllPairs-cons R x (xs ++ ys) (All-append (R x) xs ys (AllPairs-head x xs h) (All-head (λ y. All (R y) ys) x xs across))
-      (AllPairs-append xs ys (AllPairs-tail x xs h) k (All-tail (λ y. All (R y) ys) x xs across))
-
   pub AllPairs-front : (xs ys : List X) → AllPairs R (xs ++ ys) → AllPairs R xs
   AllPairs-front [] ys h = AllPairs-nil
   AllPairs-front (x ∷ xs) ys h =
-      AllPairs-cons R x xs (All-from_each (R x) xs (λ y k. All-contains (R x) (xs ++ ys) y (AllPairs-head x (xs ++ ys) h) (Contains-append_left xs ys y k)))
-      (AllPairs-front xs ys (AllPairs-tail x (xs ++ ys) h))
+      AllPairs-cons R x xs (All-from_each (R x) xs (λ y k. All-contains (R x) (xs ++ ys) y (AllPairs-head R x (xs ++ ys) h) (Contains-append_left xs ys y k)))
+      (AllPairs-front xs ys (AllPairs-tail R x (xs ++ ys) h))
 
   pub AllPairs-back : (xs ys : List X) → AllPairs R (xs ++ ys) → AllPairs R ys
   AllPairs-back [] ys h = h
-  AllPairs-back (x ∷ xs) ys h = AllPairs-back xs ys (AllPairs-tail x (xs ++ ys) h)
+  AllPairs-back (x ∷ xs) ys h = AllPairs-back xs ys (AllPairs-tail R x (xs ++ ys) h)
 
   -- each element of the front is below each of the back
   pub AllPairs-across : (xs ys : List X) → AllPairs R (xs ++ ys) → (x y : X) → Contains xs x → Contains ys y → R x y
   AllPairs-across [] ys h x y k l = absurd (Contains-nil x k)
   AllPairs-across (z ∷ xs) ys h x y k l =
       ⊎_elim
-      (λ same. subst (λ w. R w y) same (All-contains (R z) (xs ++ ys) y (AllPairs-head z (xs ++ ys) h) (Contains-append_right xs ys y l)))
-      (λ later. AllPairs-across xs ys (AllPairs-tail z (xs ++ ys) h) x y later l)
+      (λ same. subst (λ w. R w y) same (All-contains (R z) (xs ++ ys) y (AllPairs-head R z (xs ++ ys) h) (Contains-append_right xs ys y l)))
+      (λ later. AllPairs-across xs ys (AllPairs-tail R z (xs ++ ys) h) x y later l)
       (Contains-cons_cases z x xs k)
 
   -- pairs of elements of which something holds
@@ -98,8 +87,8 @@ module _ {X : Type 0} (R : X → X → Type 0) where
   AllPairs-weaker S P f [] h k = λ i j d below within. absurd (omega arith)
   AllPairs-weaker S P f (x ∷ xs) h k =
       AllPairs-cons S x xs
-      (All-from_each (S x) xs (λ y l. f x y (All-head P x xs h) (All-contains P xs y (All-tail P x xs h) l) (All-contains (R x) xs y (AllPairs-head x xs k) l)))
-      (AllPairs-weaker S P f xs (All-tail P x xs h) (AllPairs-tail x xs k))
+      (All-from_each (S x) xs (λ y l. f x y (All-head P x xs h) (All-contains P xs y (All-tail P x xs h) l) (All-contains (R x) xs y (AllPairs-head R x xs k) l)))
+      (AllPairs-weaker S P f xs (All-tail P x xs h) (AllPairs-tail R x xs k))
 
 -- rising elements that all stand in another rising list are no more than it has
 pub no_longer : {X : Type 0} (R : X → X → Type 0) → ((x y : X) → R x y → x ≡ y → ⊥) → ((x y : X) → R x y → R y x → ⊥) → (xs ys : List X) → AllPairs R xs → AllPairs R ys → ((x : X) → Contains xs x → Contains ys x) → length xs ≤ length ys

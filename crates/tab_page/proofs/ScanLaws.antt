@@ -10,7 +10,7 @@ use Rattle.tab_rows.specs.Rows.{RowView}
 use Rattle.tab_filter.specs.Windows.{WindowView}
 use Rattle.tab_page.specs.Pages.{prefix_length}
 use Rattle.tab_page.specs.Scans.{is_within, InOneRun, AreInOneRun}
-use Rattle.tab_page.proofs.RisingLists.{AllPairs-head, AllPairs-tail}
+use Rattle.tab_rows.proofs.Lists.{AllPairs-head, AllPairs-tail, filter_none}
 
 -- ---- the first of what is left
 
@@ -139,11 +139,6 @@ module _ {X : Type 0} (listed m : X → Bool) (top most : ℕ) where
       (w.so_far ∙ (ap (λ (xs : List X). looked + prefix_length m (top - length found) (most - looked) xs) nothing ∙ none_left looked))
       w.found_is
       (sym (ap (λ (xs : List X). slice_get xs 0) nothing))
-
-filter_none : {X : Type 0} (p : X → Bool) (xs : List X) → All (λ x. p x ≡ false) xs → filter p xs ≡ []
-filter_none p [] h = refl
-filter_none p (x ∷ xs) h =
-    ap (λ (t : Bool). cond t (x ∷ filter p xs) (filter p xs)) (All-head (λ y. p y ≡ false) x xs h) ∙ filter_none p xs (All-tail (λ y. p y ≡ false) x xs h)
 
 -- ---- rows in one run
 
