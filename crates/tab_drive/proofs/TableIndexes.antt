@@ -2,12 +2,12 @@
 -- finds it.
 use Rattle.std.proofs.Common.{◌≡◌, ℕ, suc, ◌+◌, ◌<◌, ◌≤◌, List, ◌∷◌, ◌++◌, true, false, length, get_or, take, drop, Ok, Err, Result, MatchOption, MatchResult, sym, ap, ◌∙◌, subst, arith, ⊎_elim}
 use Rattle.std.specs.Prelude.{Some, None, All, IsTrue, IsFalse, insert, remove, slice_get}
-use Rattle.std.specs.List.{AllWithin, HoldsAt}
+use Rattle.std.specs.List.{HoldsAt}
 use Rattle.std.specs.List.Sorted.{IsSortedBy, IsPartitionedBy, IsPartitionPoint, IsBinarySearchResult}
 use Rattle.std.specs.Ordering.{is_lt, is_eq}
 use Rattle.std.specs.Result.{result_ok}
 use Rattle.std.specs.declared.cmp.Ordering.TheVariants.{Less, Equal, Greater}
-use Rattle.std.proofs.lemmas.List.{take-append-drop, get_or-take, get_or-drop, length-take-le, length-drop, drop_more}
+use Rattle.std.proofs.lemmas.List.{take-append-drop, drop_more}
 use Rattle.std.proofs.lemmas.List.Elements.{All-drop}
 use Rattle.std.proofs.lemmas.List.Sorted.{searchable_from_sorted}
 use Rattle.std.proofs.lemmas.Bool.{cases_eq, cases_lt}
