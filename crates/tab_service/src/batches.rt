@@ -18,11 +18,8 @@ use tab_history::Ask;
 use tab_http::{Message, first_value};
 use tab_json::JsonForm;
 use tab_keys::Memory;
-use tab_ops::{Group, GroupRefused, Item};
+use tab_ops::{Group, GroupRefused, Item, MOST_ITEMS};
 use tab_page::Select;
-
-/// The index of the first operation behind as many as a group may have.
-const FIRST_TOO_MANY: usize = 100;
 
 /// Why a batch is refused.
 #[derive(Debug, Drop)]
@@ -215,12 +212,12 @@ fn group_from(
     }
 }
 
-/// The index of the part for which operations make no group.
+/// The index of the part for which operations make no group: for too many, that of the first behind the most.
 fn group_index(why: GroupRefused) -> Option<usize>
     ensures { result ≡ group_index why }
 {
     match why {
-        GroupRefused::TooMany => Some(FIRST_TOO_MANY),
+        GroupRefused::TooMany => Some(MOST_ITEMS),
         GroupRefused::MixedPartitions { index } | GroupRefused::DoubledRow { index } => Some(index),
         GroupRefused::Empty | GroupRefused::Memory => None,
     }

@@ -10,10 +10,7 @@ use crate::queries::values_of;
 use std::alloc::Global;
 use tab_edm::TextValue;
 use tab_keys::{KeyText, Memory, NameRefused, TableName};
-use tab_page::{OptionRefused, Token, TokenRefused, read_top};
-
-/// The most tables that a list may have, and how many it may have where the query does not say.
-const MOST_TABLES: u16 = 1000;
+use tab_page::{MOST_ROWS, OptionRefused, Token, TokenRefused, read_top};
 
 /// Which tables a query asks for.
 #[derive(Debug, Drop)]
@@ -75,7 +72,7 @@ fn count_of(top: Option<&TextValue>) -> Result<u16, Refusal>
         (λ why. count_of (option_copied top.entry) ≡ Err why) }
 {
     let Some(top) = top else {
-        return Ok(MOST_TABLES);
+        return Ok(MOST_ROWS);
     };
     match read_top(top.as_str().as_bytes()) {
         Some(count) => Ok(count),
