@@ -139,8 +139,10 @@ fn operations_of(
         match part_of(alloc, account, message)? {
             Ok(part) => operations.push(part)?,
             Err(why) => {
-                let index = Some(index);
-                return Ok(Err(PartRefusal { index, why }));
+                return Ok(Err(PartRefusal {
+                    index: Some(index),
+                    why,
+                }));
             }
         }
     }

@@ -29,11 +29,15 @@ fn add_value(
 ) -> Result<(), Memory>
     ensures { OnOk result (found.new.items ≡ found.old.items ++ values word.now ((name.now, value.now) ∷ [])) }
 {
-    let name = decode(alloc, name)?;
+    let Ok(name) = decode(alloc, name) else {
+        return Err(Memory);
+    };
     if name.as_str() != word {
         return Ok(());
     }
-    let value = decode(alloc, value)?;
+    let Ok(value) = decode(alloc, value) else {
+        return Err(Memory);
+    };
     let value = owned(alloc, value.as_str())?;
     found.push(value).map_err(|_| Memory)
 }
