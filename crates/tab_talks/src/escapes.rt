@@ -1,0 +1,80 @@
+//! The escapes of texts: a backtick and two hexadecimal digits are that byte; a backtick, a star, a count and a text in
+//! parentheses are that text so many times.
+
+ghost use Rattle.std.specs.Prelude.{◌<◌, IfOk};
+
+use crate::unreadable::Why;
+use std::alloc::{AllocError, Global};
+
+/// The most bytes that a repetition may come to.
+const LONGEST_REPETITION: usize = 16_777_216;
+
+/// Adds the bytes that a text says.
+pub fn push_text(bytes: &mut Vec<u8>, text: &str) -> Result<(), Why> {
+    let mut pieces = text.split('`');
+    if let Some(plain) = pieces.next() {
+        bytes.extend_from_slice(plain.as_bytes())?;
+    }
+    for piece in pieces {
+        push_escaped(bytes, piece)?;
+    }
+    Ok(())
+}
+
+/// Adds what a piece behind a backtick says: its escape, and the plain text behind that.
+fn push_escaped(bytes: &mut Vec<u8>, piece: &str) -> Result<(), Why> {
+    if let Some(repetition) = piece.strip_prefix('*') {
+        return push_repetition(bytes, repetition);
+    }
+    let [high, low, plain @ ..] = piece.as_bytes() else {
+        return Err(Why::BadEscape);
+    };
+    bytes.push(hex_digit(*high)? * 16 + hex_digit(*low)?)?;
+    bytes.extend_from_slice(plain)?;
+    Ok(())
+}
+
+/// The number that an upper-case hexadecimal digit says.
+fn hex_digit(digit: u8) -> Result<u8, Why>
+    ensures { IfOk result (λ number. number < 16) }
+{
+    match digit {
+        b'0'..=b'9' => Ok(digit - b'0'),
+        b'A'..=b'F' => Ok(digit - b'A' + 10),
+        _ => Err(Why::BadEscape),
+    }
+}
+
+/// Adds what `COUNT(TEXT)` says, and the plain text behind it.
+fn push_repetition(bytes: &mut Vec<u8>, repetition: &str) -> Result<(), Why> {
+    let Some((count, rest)) = repetition.split_once('(') else {
+        return Err(Why::BadEscape);
+    };
+    let Some((text, plain)) = rest.split_once(')') else {
+        return Err(Why::BadEscape);
+    };
+    let Ok(count) = count.parse::<usize>() else {
+        return Err(Why::BadEscape);
+    };
+    if count.saturating_mul(text.len()) > LONGEST_REPETITION {
+        return Err(Why::BadEscape);
+    }
+    for _ in 0..count {
+        bytes.extend_from_slice(text.as_bytes())?;
+    }
+    bytes.extend_from_slice(plain.as_bytes())?;
+    Ok(())
+}
+
+/// The bytes as a text of printable ASCII says them.
+pub fn shown(alloc: Global, bytes: &[u8]) -> Result<String, AllocError> {
+    let mut text = String::new(alloc);
+    for byte in bytes {
+        match byte {
+            b'`' => text.push_str("`60")?,
+            b' '..=b'~' => text.push(char::from(*byte))?,
+            _ => write!(&mut text, "`{byte:02X}")?,
+        }
+    }
+    Ok(text)
+}
