@@ -15,6 +15,8 @@ mod serving;
 mod session;
 mod stores;
 mod tables;
+#[cfg(test)]
+mod tests;
 
 pub use laws::{one_decision, one_text};
 pub use outgoing::{Outgoing, write_outgoing, write_pieces};

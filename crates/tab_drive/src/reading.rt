@@ -10,9 +10,6 @@ use crate::schedule::{RawMessage, Scheduled};
 use std::alloc::{AllocFailed, Global};
 use tab_outside::{Failed, FillRefused, Source, fill, read_byte};
 
-#[cfg(test)]
-mod tests;
-
 /// The longest line that a schedule may have, in bytes without its line feed.
 pub const LONGEST_LINE: usize = 16_384;
 

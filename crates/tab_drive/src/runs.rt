@@ -257,6 +257,3 @@ fn write_line<K: Sink>(output: &mut K, pieces: &[&[u8]])
 {
     let _ = write_pieces(output, pieces);
 }
-
-#[cfg(test)]
-mod tests;

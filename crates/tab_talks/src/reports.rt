@@ -3,9 +3,14 @@
 use crate::runs::Difference;
 use std::io;
 
-/// Prints how many replies of a file came as written.
-pub fn print_as_written(rt: &impl Print, name: &str, count: usize) -> io::Result<()> {
-    println!(rt; "{name}: {count} replies as written")
+/// Prints how many replies a file has in how many talks, where all went as written.
+pub fn print_as_written(
+    rt: &impl Print,
+    name: &str,
+    replies: usize,
+    talks: usize,
+) -> io::Result<()> {
+    println!(rt; "{name}: {replies} replies in {talks} talks as written")
 }
 
 /// Prints the first difference of a file.

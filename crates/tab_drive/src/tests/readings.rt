@@ -1,12 +1,11 @@
-ghost use Rattle.std.specs.Prelude.{None};
-ghost use Rattle.tab_outside.specs.Sides.{nothing_beside};
+//! Events that are read, with all that is left behind them.
 
-use super::{NextEvent, Unread, next_event};
-use crate::schedule::Scheduled;
+use super::drivers::ByteSource;
+use crate::{NextEvent, Scheduled, Unread, next_event};
 use std::alloc::Global;
 use std::process::Abort;
 use std::test::Fail;
-use tab_outside::{Failed, MemSource, Source, fill};
+use tab_outside::{MemSource, Source, fill};
 
 /// What is to be read.
 #[derive(Clone, Copy, Debug)]
@@ -15,33 +14,6 @@ enum Wanted {
     Now(u64),
     Call(&'static [u8]),
     Refused(Unread),
-}
-
-/// A source that gives one byte a call, and does not tell what is left.
-#[derive(Drop)]
-struct OneByOne {
-    bytes: Vec<u8>,
-    at: usize,
-}
-
-impl Source for OneByOne {
-    ghost left = { λ _. None };
-
-    ghost faults = { λ _. 0 };
-
-    ghost beside = { λ _. nothing_beside };
-
-    fn read(&mut self, buf: &mut [u8]) -> Result<usize, Failed> {
-        let Some(byte) = self.bytes.get(self.at) else {
-            return Ok(0);
-        };
-        let Some(first) = buf.first_mut() else {
-            return Ok(0);
-        };
-        *first = *byte;
-        self.at += 1;
-        Ok(1)
-    }
 }
 
 fn is_wanted(read: &Result<NextEvent, Unread>, wanted: Wanted) -> bool {
@@ -119,7 +91,7 @@ fn an_event_is_read_and_no_byte_behind_it(rt: HostRuntime) -> Result<(), Fail> {
         check(
             &rt,
             rt.alloc(),
-            &mut OneByOne { bytes, at: 0 },
+            &mut ByteSource { bytes, offset: 0 },
             wanted,
             rest.as_bytes(),
         )?;

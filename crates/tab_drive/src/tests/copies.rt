@@ -1,4 +1,5 @@
-// What a query asks for and what a page has are copied, where memory is there.
+//! What a query asks for and what a page has are copied, where memory is there.
+
 use std::alloc::Global;
 use std::test::Fail;
 use tab_keys::{Bound, KeyText};
@@ -8,7 +9,7 @@ fn key(alloc: Global, text: &str) -> Option<KeyText> {
     KeyText::new(alloc, text).ok()
 }
 
-fn place(alloc: Global, pk: &str, rk: &str) -> Option<(KeyText, KeyText)> {
+fn keys(alloc: Global, pk: &str, rk: &str) -> Option<(KeyText, KeyText)> {
     Some((key(alloc, pk)?, key(alloc, rk)?))
 }
 
@@ -19,24 +20,24 @@ fn queries_and_pages_are_copied(rt: HostRuntime) -> Result<(), Fail> {
         filter: None,
         select: Select::Names(Names::new(vec![in alloc; String::from_str(alloc, "Name")?]?)),
         top: 7,
-        start: place(alloc, "p", "r"),
+        start: keys(alloc, "p", "r"),
     };
     let copy = options.try_copy(alloc).ok();
     assert!(rt; copy.is_some());
     if let Some(copy) = copy {
         assert!(rt; matches!(&copy.select, Select::Names(names) if names.contains("Name")));
-        assert!(rt; copy.top == 7 && copy.start == place(alloc, "p", "r"));
+        assert!(rt; copy.top == 7 && copy.start == keys(alloc, "p", "r"));
     }
     let page = Page {
         rows: PageRows::new(Vec::new(alloc)),
-        next: place(alloc, "q", ""),
+        next: keys(alloc, "q", ""),
         end: Bound::End,
     };
     let copy = page.try_copy(alloc).ok();
     assert!(rt; copy.is_some());
     if let Some(copy) = copy {
         assert!(rt; copy.rows.as_slice().is_empty() && copy.end == Bound::End);
-        assert!(rt; copy.next == place(alloc, "q", ""));
+        assert!(rt; copy.next == keys(alloc, "q", ""));
     }
     Ok(())
 }

@@ -1,0 +1,101 @@
+//! What runs the tests' schedules, and what they are made of.
+
+ghost use Rattle.std.specs.Prelude.{None};
+ghost use Rattle.tab_outside.specs.Sides.{nothing_beside};
+
+use crate::{Ended, run};
+use std::alloc::{AllocError, Global};
+use tab_outside::{Failed, MemDisk, MemSink, MemSource, SetClock, Sink, Source};
+
+/// The message that makes the table `Goods`.
+pub const MAKE_GOODS: &str =
+    "POST /shop/Tables HTTP/1.1\r\nContent-Length: 21\r\n\r\n{\"TableName\":\"Goods\"}";
+
+/// The reply to it.
+pub const MADE_GOODS: &str =
+    "HTTP/1.1 201 Created\r\nContent-Length: 88\r\nContent-Type: application/json;odata=minimalmetadata;streaming=true;charset=utf-8\r\nx-ms-version: 2019-02-02\r\n\r\n{\"TableName\":\"Goods\",\"odata.metadata\":\"http://localhost/shop/$metadata#Tables/@Element\"}";
+
+/// A source that gives one byte a call, and does not tell what is left.
+#[derive(Drop)]
+pub struct ByteSource {
+    pub bytes: Vec<u8>,
+    pub offset: usize,
+}
+
+impl Source for ByteSource {
+    ghost left = { λ _. None };
+
+    ghost faults = { λ _. 0 };
+
+    ghost beside = { λ _. nothing_beside };
+
+    fn read(&mut self, buf: &mut [u8]) -> Result<usize, Failed> {
+        let Some(byte) = self.bytes.get(self.offset) else {
+            return Ok(0);
+        };
+        let Some(first) = buf.first_mut() else {
+            return Ok(0);
+        };
+        *first = *byte;
+        self.offset += 1;
+        Ok(1)
+    }
+}
+
+/// A sink that takes one byte a call, and does not tell what it took.
+#[derive(Drop)]
+pub struct ByteSink {
+    pub bytes: Vec<u8>,
+    pub faults: u64,
+}
+
+impl Sink for ByteSink {
+    ghost taken = { λ _. None };
+
+    ghost faults = { λ sink. sink.faults };
+
+    ghost beside = { λ _. nothing_beside };
+
+    fn write(&mut self, piece: &[u8]) -> Result<usize, Failed> {
+        let Some(byte) = piece.first() else {
+            return Ok(0);
+        };
+        match self.bytes.push(*byte) {
+            Ok(()) => Ok(1),
+            Err(_) => {
+                self.faults = self.faults.saturating_add(1);
+                Err(Failed)
+            }
+        }
+    }
+}
+
+/// Runs a schedule for the open account `shop`.
+pub fn drive<S: Source, K: Sink>(
+    alloc: Global,
+    source: &mut S,
+    sink: &mut K,
+) -> Result<Ended, AllocError> {
+    let mut words = Vec::new(alloc);
+    for word in ["drive", "shop", "-"] {
+        words.push(String::from_str(alloc, word)?)?;
+    }
+    let mut yard: Vec<MemDisk> = Vec::new(alloc);
+    let mut clock = SetClock::new(0);
+    Ok(run(alloc, words.as_slice(), source, sink, &mut yard, &mut clock))
+}
+
+/// What the run of a schedule writes, behind which the line `end` is added.
+pub fn written(alloc: Global, mut schedule: Vec<u8>) -> Result<Vec<u8>, AllocError> {
+    schedule.extend_from_slice(b"end\n")?;
+    let mut source = MemSource::new(schedule, Vec::new(alloc));
+    let mut sink = MemSink::new(alloc, Vec::new(alloc));
+    let _ended = drive(alloc, &mut source, &mut sink)?;
+    Vec::from_slice(alloc, sink.bytes())
+}
+
+/// Adds the event that hands in a message.
+pub fn push_call(schedule: &mut Vec<u8>, alloc: Global, message: &str) -> Result<(), AllocError> {
+    let event = format!(in alloc; "call {}\n{message}\n", message.len())?;
+    schedule.extend_from_slice(event.as_bytes())
+}
