@@ -59,10 +59,20 @@ fn push_repetition(bytes: &mut Vec<u8>, repetition: &str) -> Result<(), Why> {
     if count.saturating_mul(text.len()) > LONGEST_REPETITION {
         return Err(Why::BadEscape);
     }
-    for _ in 0..count {
-        bytes.extend_from_slice(text.as_bytes())?;
-    }
+    push_times(bytes, text.as_bytes(), count)?;
     bytes.extend_from_slice(plain.as_bytes())?;
+    Ok(())
+}
+
+/// Adds the unit so many times. A unit of one byte is common, and goes fast.
+fn push_times(bytes: &mut Vec<u8>, unit: &[u8], count: usize) -> Result<(), AllocError> {
+    if let [byte] = unit {
+        let length = bytes.len().saturating_add(count);
+        return bytes.resize(length, *byte);
+    }
+    for _ in 0..count {
+        bytes.extend_from_slice(unit)?;
+    }
     Ok(())
 }
 
