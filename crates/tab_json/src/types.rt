@@ -73,7 +73,10 @@ pub(crate) fn value_as(
         EdmType::Boolean => value.as_bool().map(Value::Flag),
         EdmType::Int32 => int32_of(value).map(Value::Int32),
         EdmType::Int64 => value.as_str().and_then(int64_of).map(Value::Int64),
-        EdmType::DateTime => value.as_str().and_then(read_moment).map(Value::Moment),
+        EdmType::DateTime => match value.as_str() {
+            Some(text) => read_moment(text).map(Value::Moment),
+            None => None,
+        },
         EdmType::Guid => value.as_str().and_then(guid_of).map(Value::Guid),
         EdmType::Binary => match value.as_str() {
             Some(text) => BytesValue::from_base64(alloc, text)?.map(Value::Bytes),
