@@ -1,2 +1,5 @@
 mod Fronts
 mod Overwrites
+mod LogLemmas
+mod Settling
+pub mod Moments

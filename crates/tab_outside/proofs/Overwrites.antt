@@ -17,7 +17,7 @@ drop_joined (suc n) [] ys = rw (sub-zero (suc n)) refl
 drop_joined (suc n) (x ∷ xs) ys = let less : suc n - suc (length xs) ≡ n - length xs = omega arith in rw less (drop_joined n xs ys)
 
 -- a piece put into bytes that were filled up with zeros to its end
-spliced_when_grown : (bytes piece : List ℕ) (at : ℕ) (grown : List ℕ) → grown ≡ bytes ++ replicate (at + length piece - length bytes) 0
+pub spliced_when_grown : (bytes piece : List ℕ) (at : ℕ) (grown : List ℕ) → grown ≡ bytes ++ replicate (at + length piece - length bytes) 0
     → take at grown ++ piece ++ drop (at + length piece) grown ≡ spliced bytes at piece
 spliced_when_grown bytes piece at grown filled =
     let end = at + length piece in

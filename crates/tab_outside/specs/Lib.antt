@@ -2,4 +2,8 @@ pub mod Faults
 pub mod Sides
 pub mod Transfers
 pub mod Calls
+pub mod Armed
 pub mod Disks
+pub mod Logs
+pub mod LogLaws
+pub mod Pairs

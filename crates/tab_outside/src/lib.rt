@@ -6,12 +6,17 @@ mod bytes;
 mod calls;
 mod clocks;
 mod disks;
+mod logs;
+mod mem_disk;
 mod sinks;
 mod sources;
+#[cfg(test)]
+mod tests;
 mod transfers;
 
 pub use clocks::{Clock, SetClock};
-pub use disks::{Disk, MemDisk};
+pub use disks::Disk;
+pub use mem_disk::MemDisk;
 pub use sinks::{MemSink, Sink};
 pub use sources::{MemSource, Source};
 use std::alloc::{AllocError, AllocFailed};
