@@ -1,10 +1,10 @@
 -- What the calls of a disk in memory leave.
-use Rattle.std.proofs.Common.{◌≡◌, ℕ, zero, suc, ◌+◌, ◌-◌, ◌%◌, ◌==◌, ◌<◌, ◌≤◌, min, max, Bool, true, false, cond, inl, inr, Result, Ok, Err, OnOk, OnErr, List, [], ◌∷◌, ◌++◌, length, take, drop, replicate, map, refl, sym, ap, subst, ◌∙◌, arith}
+use Rattle.std.proofs.Common.{◌≡◌, ℕ, ◌+◌, ◌%◌, ◌==◌, ◌<◌, ◌≤◌, Bool, true, false, cond, inl, inr, Result, Ok, Err, OnOk, OnErr, List, [], ◌∷◌, ◌++◌, length, take, replicate, map, refl, sym, ap, subst, ◌∙◌, arith}
 use Rattle.std.specs.Prelude.{◌⊎◌}
 use Rattle.std.proofs.lemmas.Bool.{cases_lt}
-use Rattle.std.proofs.lemmas.List.{length-append, length-replicate, take-append-le, take_all, append-nil}
-use Rattle.tab_outside.specs.Disks.{Torn, Watch, WasTorn, Wrote, Rests, Elapses, LeavesOnly, overwritten}
-use Rattle.tab_outside.specs.Logs.{InLog, Written, Logged, wrote, settled, written, writes_of, MayLeave, LogLeaves, LogLeft, Synced, empty_disk, after_logged, after_log, bytes_of, filled, fill_byte, painted, picture, picture_of, Settles, log_watch}
+use Rattle.std.proofs.lemmas.List.{length-append, length-replicate, take-append-le, take_all}
+use Rattle.tab_outside.specs.Disks.{Torn, WasTorn, Wrote, Rests, Elapses, LeavesOnly, overwritten}
+use Rattle.tab_outside.specs.Logs.{InLog, Written, Logged, wrote, settled, written, MayLeave, LogLeaves, LogLeft, Synced, empty_disk, after_logged, after_log, bytes_of, filled, fill_byte, painted, picture_of, Settles, log_watch}
 use Rattle.tab_outside.specs.LogLaws.{torn_same, torn_overwritten, leaves_none, leaves_all}
 
 -- one call more

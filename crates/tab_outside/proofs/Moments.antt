@@ -2,7 +2,7 @@
 use Rattle.std.proofs.Common.{ℕ, ◌≤◌, List, inl, inr, arith}
 use Rattle.std.specs.Prelude.{◌⊎◌}
 use Rattle.tab_outside.specs.Disks.{Watch, Rests, CountsNow, OnlyNow}
-use Rattle.tab_outside.specs.Pairs.{Tells, Now, Since, Was, Extends, AddsNone}
+use Rattle.tab_outside.specs.Pairs.{Tells, Now, Since, Extends, AddsNone}
 
 -- a fact that follows may take a fact's place
 pub tells_weaker : {S : Type 0} (spells : S → List ℕ → List ℕ → Type 0) (P Q : S → Type 0) (c d : List ℕ) → ((value : S) → P value → Q value) → Tells spells P c d → Tells spells Q c d

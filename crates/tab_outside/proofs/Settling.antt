@@ -1,7 +1,7 @@
 -- How a disk in memory keeps the bytes of the last sync, with zeros behind them.
-use Rattle.std.proofs.Common.{◌≡◌, ◌≢◌, ℕ, zero, suc, ◌+◌, ◌-◌, ◌%◌, ◌==◌, ◌<◌, ◌≤◌, min, max, Bool, true, false, cond, inl, inr, List, [], ◌∷◌, ◌++◌, length, take, drop, replicate, map, refl, sym, ap, subst, ◌∙◌, arith}
+use Rattle.std.proofs.Common.{◌≡◌, ℕ, zero, suc, ◌+◌, ◌-◌, ◌%◌, ◌==◌, ◌<◌, ◌≤◌, max, Bool, true, false, cond, inl, inr, List, [], ◌∷◌, ◌++◌, length, take, drop, replicate, map, refl, sym, ap, subst, ◌∙◌, arith}
 use Rattle.std.specs.List.{AllByRecursion}
-use Rattle.std.proofs.lemmas.List.{length-append, length-replicate, length-drop, take-append-le, drop-append-le, take_all, take_at, drop_all, append-nil, append_assoc, replicate-append-replicate, drop-map, map-append}
+use Rattle.std.proofs.lemmas.List.{length-append, length-replicate, length-drop, take-append-le, drop-append-le, take_all, take_at, drop_all, append_assoc, replicate-append-replicate, drop-map, map-append}
 use Rattle.tab_outside.specs.Disks.{write_end, spliced, overwritten}
 use Rattle.tab_outside.specs.declared.logs.Call.{Call}
 use Rattle.tab_outside.specs.Logs.{Written, Logged, logged, wrote, settled, written, writes_of, Synced, empty_disk, after_log, bytes_of, filled, fill_byte, painted, picture, picture_of, Settles, IsPadded, FitsIn, KeepsLog}

@@ -1,7 +1,7 @@
 -- A disk in memory is a disk: what its log may leave.
-use Rattle.std.proofs.Common.{◌≡◌, ℕ, zero, suc, ◌+◌, ◌-◌, ◌%◌, ◌==◌, ◌<◌, ◌≤◌, min, max, Bool, true, false, cond, List, [], ◌∷◌, ◌++◌, length, take, drop, replicate, map, refl, sym, ap, subst, ◌∙◌, arith}
+use Rattle.std.proofs.Common.{◌≡◌, ℕ, ◌+◌, ◌-◌, ◌≤◌, min, max, true, false, List, [], ◌∷◌, ◌++◌, length, take, drop, replicate, refl, sym, ap, subst, ◌∙◌, arith}
 use Rattle.std.proofs.lemmas.List.{length-append, length-take, length-drop, length-replicate, take-append-le, take-take, take_all, drop_at, append_assoc}
-use Rattle.tab_outside.specs.Disks.{Torn, write_end, spliced, overwritten}
+use Rattle.tab_outside.specs.Disks.{Torn, spliced, overwritten}
 use Rattle.tab_outside.specs.Logs.{Written, Logged, written, MayLeave, LogLeaves, LogLeft, bytes_of, after_log, empty_disk}
 
 -- a write that changed nothing

@@ -1,4 +1,4 @@
-use Rattle.std.proofs.Common.{◌≡◌, ◌<◌, ◌∙◌, ap, List, ℕ, [], ◌∷◌, ◌++◌, length, take, replicate, arith}
+use Rattle.std.proofs.Common.{◌<◌, ◌∙◌, ap, List, ℕ, [], ◌∷◌, ◌++◌, length, arith}
 use Rattle.std.proofs.lemmas.List.{take_more_set, replicate_more}
 use Rattle.tab_outside.proofs.logs.fill.Goals as goal
 

@@ -1,4 +1,4 @@
-use Rattle.std.proofs.Common.{rules, ◌≡◌, ◌%◌, ◌==◌, ◌+◌, ◌<◌, ◌≤◌, ◌∙◌, ap, ℕ, List, ◌++◌, true, false, length, take, drop, replicate}
+use Rattle.std.proofs.Common.{rules, ◌≡◌, ◌%◌, ◌==◌, ◌+◌, ◌<◌, ◌∙◌, ap, ℕ, ◌++◌, true, false, length, take, drop, replicate}
 use Rattle.tab_outside.specs.Logs.{Written}
 use Rattle.tab_outside.proofs.Settling.{paint_piece, paint_fill}
 use Rattle.tab_outside.proofs.logs.paint.Goals as goal

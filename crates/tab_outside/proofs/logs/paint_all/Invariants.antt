@@ -1,4 +1,4 @@
-use Rattle.std.proofs.Common.{◌≡◌, ℕ, List, length, drop, map}
+use Rattle.std.proofs.Common.{ℕ, List, length, drop, map}
 use Rattle.std.specs.List.{AllByRecursion}
 use Rattle.tab_outside.specs.Logs.{IsPadded, FitsIn, logged, writes_of}
 use Rattle.tab_outside.proofs.Settling.{PaintsOn}

@@ -1,4 +1,4 @@
-use Rattle.std.proofs.Common.{◌≡◌, ◌≤◌, ◌-◌, ◌∷◌, ◌++◌, [], List, ℕ, ap, sym, subst, ◌∙◌, map, length, replicate, arith}
+use Rattle.std.proofs.Common.{◌≤◌, ◌-◌, List, ℕ, ap, sym, subst, map, length, replicate, arith}
 use Rattle.std.proofs.lemmas.List.{length-append, length-replicate}
 use Rattle.tab_outside.specs.Logs.{Written, Logged, wrote, logged, KeepsLog}
 use Rattle.tab_outside.proofs.Settling.{keeps_write, logged_more, overwritten_length}

@@ -1,7 +1,7 @@
-use Rattle.std.proofs.Common.{rules, ◌≡◌, ◌≤◌, ◌+◌, ◌%◌, ◌∷◌, ◌++◌, [], List, ℕ, ap, sym, subst, ◌∙◌, map, length, take, drop, refl, vec_len, arith}
+use Rattle.std.proofs.Common.{rules, ◌≡◌, ◌≤◌, ◌+◌, ◌∷◌, ◌++◌, [], List, ℕ, ap, sym, subst, ◌∙◌, map, length, take, drop, refl, vec_len, arith}
 use Rattle.std.specs.List.{AllByRecursion}
 use Rattle.std.proofs.lemmas.List.{take_at, length-map}
-use Rattle.tab_outside.specs.Logs.{Written, Logged, InLog, logged, settled, after_log, empty_disk, bytes_of, picture_of, IsPadded, FitsIn, KeepsLog, Settles}
+use Rattle.tab_outside.specs.Logs.{Written, Logged, InLog, logged, settled, after_log, empty_disk, bytes_of, picture_of, IsPadded, FitsIn, KeepsLog}
 use Rattle.tab_outside.proofs.Settling.{all_fit, rest_writes, picture_all, picture_no_longer, padded_front, logged_more, keeps_settled, settles_more, settled_now, kept_now}
 use Rattle.tab_outside.proofs.mem_disk.MemDisk.settle.Goals as goal
 use Rattle.tab_outside.proofs.mem_disk.MemDisk.settle.Goals.{After-deref-2}

@@ -1,5 +1,5 @@
-use Rattle.std.proofs.Common.{◌∙◌, ◌∷◌, ◌++◌, [], ap, List, length, map}
-use Rattle.tab_outside.specs.Logs.{InLog, Logged, Written, wrote, logged}
+use Rattle.std.proofs.Common.{◌∙◌, ◌∷◌, ◌++◌, [], ap, length, map}
+use Rattle.tab_outside.specs.Logs.{InLog, Written, wrote, logged}
 use Rattle.tab_outside.proofs.LogLemmas.{wrote_by, wrote_none, wrote_one, written_by}
 use Rattle.tab_outside.proofs.mem_disk.MemDiskDisk.write_at.Goals as goal
 
