@@ -1,6 +1,5 @@
 //! Cases of bodies of entities and tables: what they come to, or why they are refused.
 
-use crate::keys::key_refusal;
 use crate::scripts::{Script, split_word};
 use crate::stops::Stop;
 use crate::values::{add_part, properties_text, whole_or_size};
@@ -72,12 +71,8 @@ fn add_key(text: &mut String, alloc: Global, word: &str, key: &str) -> Result<()
 
 fn refusal_text(alloc: Global, why: JsonRefused) -> Result<String, AllocError> {
     match why {
-        JsonRefused::NotJson => String::from_str(alloc, "refused NotJson"),
-        JsonRefused::NotObject => String::from_str(alloc, "refused NotObject"),
-        JsonRefused::ValueType(name) => {
-            format!(in alloc; "refused ValueType {}", name.as_str())
-        }
-        JsonRefused::Key(why) => String::from_str(alloc, key_refusal(why)),
-        JsonRefused::Memory => String::from_str(alloc, "refused Memory"),
+        JsonRefused::ValueType(name) => { format!(in alloc; "refused ValueType {}", name.as_str()) }
+        JsonRefused::Key(why) => format!(in alloc; "refused {why:?}"),
+        other => format!(in alloc; "refused {other:?}"),
     }
 }

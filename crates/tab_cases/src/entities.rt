@@ -4,9 +4,9 @@ ghost use Rattle.std.specs.Prelude.{◌≡◌, IfOk};
 
 use crate::scripts::{Script, split_word};
 use crate::stops::Stop;
-use crate::values::found_text;
+use crate::values::{hex_text, value_text, whole_or_size};
 use std::alloc::{AllocError, Global};
-use tab_edm::{EdmRefused, Entity, Property};
+use tab_edm::{EdmRefused, Entity, Property, Value};
 use tab_json::{JsonRefused, Properties, read_entity};
 
 /// `entity PK-UNITS RK-UNITS JSON` and `flags COUNT`: the size of the entity of these properties, or why they make
@@ -100,10 +100,22 @@ fn values(script: &mut Script<'_>, entity: &Entity) -> Result<(), Stop> {
             break;
         }
         let name = script.text("get")?;
-        let came = found_text(script.alloc, entity.get(name.as_str()))?;
+        let came = match entity.get(name.as_str()) {
+            Some(value) => given_back(script.alloc, value.try_copy(script.alloc)?)?,
+            None => String::from_str(script.alloc, "none")?,
+        };
         script.due(came.as_str())?;
     }
     Ok(())
+}
+
+/// A value, whose text or bytes are given back first.
+fn given_back(alloc: Global, value: Value) -> Result<String, AllocError> {
+    match value {
+        Value::Text(text) => whole_or_size(alloc, "Text", text.into_string().as_str()),
+        Value::Bytes(bytes) => hex_text(alloc, "Bytes", &bytes.into_bytes()),
+        other => value_text(alloc, &other),
+    }
 }
 
 fn refusal_text(alloc: Global, why: &EdmRefused) -> Result<String, AllocError> {

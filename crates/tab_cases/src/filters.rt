@@ -38,8 +38,7 @@ pub fn refusal_text(alloc: Global, why: FilterRefused) -> Result<String, AllocEr
     match why {
         FilterRefused::Syntax { at } => format!(in alloc; "refused Syntax at {at}"),
         FilterRefused::BadLiteral { at } => format!(in alloc; "refused BadLiteral at {at}"),
-        FilterRefused::TooManyComparisons => String::from_str(alloc, "refused TooManyComparisons"),
-        FilterRefused::Memory => String::from_str(alloc, "refused Memory"),
+        other => format!(in alloc; "refused {other:?}"),
     }
 }
 
@@ -97,7 +96,11 @@ fn window(script: &mut Script<'_>) -> Result<(), Stop> {
     let window = window_of(script, text.as_str())?.try_copy(script.alloc)?;
     let pk = key_text_of(script, pk.as_str())?;
     let rk = key_text_of(script, rk.as_str())?;
-    let has = if window.has(&pk, &rk) { "inside" } else { "outside" };
+    let has = if window.has(&pk, &rk) {
+        "inside"
+    } else {
+        "outside"
+    };
     let below = if window.below(&pk) { ", below" } else { "" };
     let reaches = if window.reaches(&pk) { ", reached" } else { "" };
     let came = format!(in script.alloc; "{has}{below}{reaches}")?;

@@ -139,13 +139,11 @@ fn group(script: &mut Script<'_>, items: Vec<Item>) -> Result<(), Stop> {
 
 fn group_refusal(alloc: Global, why: GroupRefused) -> Result<String, AllocError> {
     match why {
-        GroupRefused::Empty => String::from_str(alloc, "refused Empty"),
-        GroupRefused::TooMany => String::from_str(alloc, "refused TooMany"),
         GroupRefused::MixedPartitions { index } => {
             format!(in alloc; "refused MixedPartitions at {index}")
         }
         GroupRefused::DoubledRow { index } => format!(in alloc; "refused DoubledRow at {index}"),
-        GroupRefused::Memory => String::from_str(alloc, "refused Memory"),
+        other => format!(in alloc; "refused {other:?}"),
     }
 }
 
@@ -209,24 +207,22 @@ fn refusal_text(alloc: Global, why: OpRefused) -> Result<String, AllocError> {
 }
 
 /// `joins COUNT`: so many entities of one property each, `n000`, `n001` and so on, are merged into one row, one after
-/// another; the answer is how many joined, and what the first was told that did not.
+/// another; the answer is how many joined, and why the others did not.
 pub fn joins(script: &mut Script<'_>, rows: &mut Rows) -> Result<(), Stop> {
     let text = script.text("joins")?;
     let count = script.number_of(text.as_str())?;
     let mut joined = 0u64;
-    let mut came = String::new(script.alloc);
+    let mut refusals = String::new(script.alloc);
     for number in 0..count {
         match join(script, rows, number)? {
             Ok(_) => joined = joined.saturating_add(1),
             Err(why) => {
-                let refusal = refusal_text(script.alloc, why)?;
-                came = format!(in script.alloc; "{joined} joined, {number} {refusal}")?;
+                let why = refusal_text(script.alloc, why)?;
+                refusals.push_str(format!(in script.alloc; "; n{number:03} {why}")?.as_str())?;
             }
         }
     }
-    if came.is_empty() {
-        came = format!(in script.alloc; "{joined} joined")?;
-    }
+    let came = format!(in script.alloc; "{joined} joined{refusals}")?;
     script.due(came.as_str())
 }
 

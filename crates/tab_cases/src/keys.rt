@@ -4,7 +4,7 @@ use crate::scripts::Script;
 use crate::stops::Stop;
 use std::alloc::{AllocError, Global};
 use std::cmp::Ordering;
-use tab_keys::{Bound, Key, KeyRefused, KeyText, NameRefused, Span, TableName};
+use tab_keys::{Bound, Key, KeyText, Span, TableName};
 
 /// `key TEXT`: how many units the key text has, or why it is none.
 pub fn key_text(script: &mut Script<'_>) -> Result<(), Stop> {
@@ -14,17 +14,9 @@ pub fn key_text(script: &mut Script<'_>) -> Result<(), Stop> {
             let copy = key.try_copy(script.alloc)?;
             format!(in script.alloc; "{} units", copy.units())?
         }
-        Err(why) => String::from_str(script.alloc, key_refusal(why))?,
+        Err(why) => format!(in script.alloc; "refused {why:?}")?,
     };
     script.due(came.as_str())
-}
-
-pub fn key_refusal(why: KeyRefused) -> &'static str {
-    match why {
-        KeyRefused::TooLong => "refused TooLong",
-        KeyRefused::BadCharacter => "refused BadCharacter",
-        KeyRefused::Memory => "refused Memory",
-    }
 }
 
 /// `table TEXT`: the table name as its copy spells it, or why it is none.
@@ -35,9 +27,7 @@ pub fn table_name(script: &mut Script<'_>) -> Result<(), Stop> {
             let copy = name.try_copy(script.alloc)?;
             format!(in script.alloc; "name {}", copy.as_str())?
         }
-        Err(NameRefused::BadName) => String::from_str(script.alloc, "refused BadName")?,
-        Err(NameRefused::Reserved) => String::from_str(script.alloc, "refused Reserved")?,
-        Err(NameRefused::Memory) => String::from_str(script.alloc, "refused Memory")?,
+        Err(why) => format!(in script.alloc; "refused {why:?}")?,
     };
     script.due(came.as_str())
 }

@@ -3,8 +3,8 @@
 use crate::scripts::Script;
 use crate::stops::Stop;
 use crate::{
-    bodies, entities, filters, keys, messages, moments, multiparts, outside, queries, requests, rows,
-    signatures, written,
+    bodies, entities, filters, keys, messages, moments, multiparts, outside, queries, requests,
+    rows, signatures, written,
 };
 
 /// Runs the cases of a file, and gives how many answers were compared.

@@ -9,7 +9,7 @@ use crate::stops::Stop;
 use crate::values::add_part;
 use std::alloc::{AllocError, Global};
 use std::str;
-use tab_http::{HttpRefused, Message, read_message};
+use tab_http::{Message, read_message};
 use tab_outside::{Failed, MemSource, Source};
 
 /// The longest input that is cut at each of its bytes.
@@ -175,7 +175,7 @@ fn messages_text<S: Source>(
         match read_message(alloc, source, carry) {
             Ok(message) => add_part(&mut text, message_text(alloc, &message)?.as_str())?,
             Err(why) => {
-                add_part(&mut text, refusal_text(why))?;
+                add_part(&mut text, format!(in alloc; "{why:?}")?.as_str())?;
                 if number > 0 {
                     return Ok(text);
                 }
@@ -200,19 +200,6 @@ pub fn message_text(alloc: Global, message: &Message) -> Result<String, AllocErr
     }
 }
 
-fn refusal_text(why: HttpRefused) -> &'static str {
-    match why {
-        HttpRefused::EndBetween => "EndBetween",
-        HttpRefused::EndInside => "EndInside",
-        HttpRefused::Malformed => "Malformed",
-        HttpRefused::HeadTooLong => "HeadTooLong",
-        HttpRefused::NoLength => "NoLength",
-        HttpRefused::BodyTooLong => "BodyTooLong",
-        HttpRefused::ReadFault => "ReadFault",
-        HttpRefused::Memory => "Memory",
-    }
-}
-
 fn faulty(script: &mut Script<'_>) -> Result<(), Stop> {
     let text = script.text("faulty")?;
     let fails = fails_of(script, text.as_str())?;
@@ -227,7 +214,10 @@ fn faulty(script: &mut Script<'_>) -> Result<(), Stop> {
             let came = headers_text(script.alloc, &message, names.as_str())?;
             script.due(came.as_str())
         }
-        Err(why) => script.due(refusal_text(why)),
+        Err(why) => {
+            let came = format!(in script.alloc; "{why:?}")?;
+            script.due(came.as_str())
+        }
     }
 }
 

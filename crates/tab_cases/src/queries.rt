@@ -43,11 +43,8 @@ fn asked_text(alloc: Global, options: &Options) -> Result<String, AllocError> {
 
 fn refusal_text(alloc: Global, why: OptionRefused) -> Result<String, AllocError> {
     match why {
-        OptionRefused::BadOption => String::from_str(alloc, "refused BadOption"),
-        OptionRefused::BadTop => String::from_str(alloc, "refused BadTop"),
-        OptionRefused::BadToken => String::from_str(alloc, "refused BadToken"),
         OptionRefused::Filter(why) => filter_refusal(alloc, why),
-        OptionRefused::Memory => String::from_str(alloc, "refused Memory"),
+        other => format!(in alloc; "refused {other:?}"),
     }
 }
 

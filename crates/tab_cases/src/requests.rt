@@ -12,6 +12,7 @@ use tab_service::{Decided, decide};
 
 /// What stands in the body of a reply before and behind the text of its error.
 const BEFORE_TEXT: &str = "\"value\":\"";
+
 const BEHIND_TEXT: &str = "\"}}}";
 
 /// `account NAME | KEY` begins a case; without a key it is open. `date TEXT` and `now MOMENT` hold for the lines behind
@@ -117,11 +118,7 @@ fn batch(script: &mut Script<'_>) -> Result<Message, Stop> {
     }
     body.extend_from_slice(b"--c--\n--b--\n")?;
     let mut headers = Vec::new(script.alloc);
-    headers.push(header(
-        script.alloc,
-        "Content-Type",
-        "multipart/mixed; boundary=b",
-    )?)?;
+    headers.push(header(script.alloc, "Content-Type", "multipart/mixed; boundary=b")?)?;
     Ok(message(script.alloc, "POST", "/shop/$batch", headers, body)?)
 }
 

@@ -5,13 +5,12 @@ ghost use Rattle.tab_keys.specs.KeyTexts.{units_of};
 ghost use Rattle.tab_edm.specs.declared.TheConstants.{GREATEST};
 
 use crate::entities::entity_of;
-use crate::groups;
 use crate::keys::{key_at, key_of, key_text_of};
 use crate::moments::tick_of;
-use crate::pages;
 use crate::scripts::Script;
 use crate::stops::Stop;
 use crate::values::{add_part, found_text, properties_text};
+use crate::{groups, pages};
 use std::alloc::{AllocError, Global};
 use std::marker::Brand;
 use std::sync::ledger::{Blank, Ledger};

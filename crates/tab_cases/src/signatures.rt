@@ -4,7 +4,7 @@ use crate::scripts::Script;
 use crate::stops::Stop;
 use crate::values::hex_text;
 use std::alloc::{AllocError, Global};
-use tab_auth::{AuthRefused, Keys, Signed, check, hmac, sign_lite};
+use tab_auth::{Keys, Signed, check, hmac, sign_lite};
 use tab_edm::{TextValue, read_moment};
 
 /// What stands for a header or a parameter that is not there.
@@ -33,12 +33,7 @@ pub fn sign(script: &mut Script<'_>, keys: &Keys) -> Result<(), Stop> {
 
 /// `check PATH | COMP | AUTHORIZATION` with the date of the account's case and at its moment, where `none` stands for
 /// what is not there.
-pub fn checked(
-    script: &mut Script<'_>,
-    keys: &Keys,
-    date: &str,
-    now: u64,
-) -> Result<(), Stop> {
+pub fn checked(script: &mut Script<'_>, keys: &Keys, date: &str, now: u64) -> Result<(), Stop> {
     let fields = script.fields("check")?;
     let [path, comp, authorization] = fields.as_slice() else {
         return Err(script.unread("PATH | COMP | AUTHORIZATION is wanted"));
@@ -51,7 +46,10 @@ pub fn checked(
     };
     match check(script.alloc, keys, &signed, now) {
         Ok(()) => script.due("taken"),
-        Err(why) => script.due(refusal_text(why)),
+        Err(why) => {
+            let came = format!(in script.alloc; "refused {why:?}")?;
+            script.due(came.as_str())
+        }
     }
 }
 
@@ -60,18 +58,6 @@ fn there(alloc: Global, text: &str) -> Result<Option<TextValue>, AllocError> {
         return Ok(None);
     }
     Ok(Some(TextValue::new(String::from_str(alloc, text)?)))
-}
-
-fn refusal_text(why: AuthRefused) -> &'static str {
-    match why {
-        AuthRefused::Missing => "refused Missing",
-        AuthRefused::UnknownAccount => "refused UnknownAccount",
-        AuthRefused::DateUnread => "refused DateUnread",
-        AuthRefused::TooOld => "refused TooOld",
-        AuthRefused::TooEarly => "refused TooEarly",
-        AuthRefused::Differs => "refused Differs",
-        AuthRefused::Memory => "refused Memory",
-    }
 }
 
 /// The tick of a moment, or of a number.

@@ -6,7 +6,10 @@ use std::alloc::{AllocError, AllocFailed};
 #[derive(Debug, Drop)]
 pub enum Stop {
     /// The case at this line cannot be read.
-    Unread { line: usize, why: &'static str },
+    Unread {
+        line: usize,
+        why: &'static str,
+    },
     /// The answer at this line is not the one that came; both as they are shown.
     Differs {
         line: usize,

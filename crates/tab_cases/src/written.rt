@@ -1,15 +1,13 @@
 //! Cases of written JSON: entities, pages, tables, lists of tables, and errors.
 
-
-
 use crate::entities::entity_of;
 use crate::keys::name_of;
 use crate::rows::row_of;
 use crate::scripts::{Script, split_word};
 use crate::stops::Stop;
 use tab_json::{
-    JsonForm, JsonRefused, Version, read_entity, write_entity, write_fault, write_page, write_table,
-    write_tables, write_version,
+    JsonForm, JsonRefused, Version, read_entity, write_entity, write_fault, write_page,
+    write_table, write_tables, write_version,
 };
 use tab_keys::{Bound, Key, TableName};
 use tab_page::{Page, PageRows, Select};
