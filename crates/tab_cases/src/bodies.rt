@@ -33,7 +33,7 @@ pub fn run(script: &mut Script<'_>) -> Result<(), Stop> {
                 Ok(name) => name,
                 Err(why) => refusal_text(script.alloc, why)?,
             };
-            script.due(came.as_str())
+            script.due_text(came)
         }
     }
 }
@@ -43,7 +43,7 @@ fn due_entity(script: &mut Script<'_>, body: &str) -> Result<(), Stop> {
         Ok(entity) => entity_text(script.alloc, entity)?,
         Err(why) => refusal_text(script.alloc, why)?,
     };
-    script.due(came.as_str())
+    script.due_text(came)
 }
 
 /// The keys and the properties that a body gives.

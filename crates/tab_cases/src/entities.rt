@@ -18,14 +18,10 @@ pub fn run(script: &mut Script<'_>) -> Result<(), Stop> {
     };
     match made {
         Ok(entity) => {
-            let came = format!(in script.alloc; "size {}", entity.size())?;
-            script.due(came.as_str())?;
+            script.due_text(format!(in script.alloc; "size {}", entity.size())?)?;
             values(script, &entity.try_copy(script.alloc)?)
         }
-        Err(why) => {
-            let came = refusal_text(script.alloc, &why)?;
-            script.due(came.as_str())
-        }
+        Err(why) => script.due_text(refusal_text(script.alloc, &why)?),
     }
 }
 
@@ -104,7 +100,7 @@ fn values(script: &mut Script<'_>, entity: &Entity) -> Result<(), Stop> {
             Some(value) => given_back(script.alloc, value.try_copy(script.alloc)?)?,
             None => String::from_str(script.alloc, "none")?,
         };
-        script.due(came.as_str())?;
+        script.due_text(came)?;
     }
     Ok(())
 }

@@ -27,10 +27,7 @@ fn filter(script: &mut Script<'_>) -> Result<(), Stop> {
     let text = script.text("filter")?;
     match parse(script.alloc, text.as_str()) {
         Ok(_) => script.due("read"),
-        Err(why) => {
-            let came = refusal_text(script.alloc, why)?;
-            script.due(came.as_str())
-        }
+        Err(why) => script.due_text(refusal_text(script.alloc, why)?),
     }
 }
 
@@ -103,14 +100,12 @@ fn window(script: &mut Script<'_>) -> Result<(), Stop> {
     };
     let below = if window.below(&pk) { ", below" } else { "" };
     let reaches = if window.reaches(&pk) { ", reached" } else { "" };
-    let came = format!(in script.alloc; "{has}{below}{reaches}")?;
-    script.due(came.as_str())
+    script.due_text(format!(in script.alloc; "{has}{below}{reaches}")?)
 }
 
 fn start(script: &mut Script<'_>) -> Result<(), Stop> {
     let text = script.text("start")?;
     let window = window_of(script, text.as_str())?;
     let (pk, rk) = window.start();
-    let came = format!(in script.alloc; "{pk}/{rk}")?;
-    script.due(came.as_str())
+    script.due_text(format!(in script.alloc; "{pk}/{rk}")?)
 }

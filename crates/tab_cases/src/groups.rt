@@ -127,13 +127,9 @@ fn group(script: &mut Script<'_>, items: Vec<Item>) -> Result<(), Stop> {
     match Group::new(items) {
         Ok(group) => {
             let copy = group.try_copy(script.alloc)?;
-            let came = format!(in script.alloc; "{} operations", copy.items().len())?;
-            script.due(came.as_str())
+            script.due_text(format!(in script.alloc; "{} operations", copy.items().len())?)
         }
-        Err(why) => {
-            let came = group_refusal(script.alloc, why)?;
-            script.due(came.as_str())
-        }
+        Err(why) => script.due_text(group_refusal(script.alloc, why)?),
     }
 }
 
@@ -154,14 +150,8 @@ fn act(script: &mut Script<'_>, rows: &mut Rows, items: Vec<Item>) -> Result<(),
         return Err(script.unread("a group is wanted"));
     };
     match applied(script.alloc, rows, &group, tick)? {
-        Ok(count) => {
-            let came = format!(in script.alloc; "{count} changes")?;
-            script.due(came.as_str())
-        }
-        Err(why) => {
-            let came = refusal_text(script.alloc, why)?;
-            script.due(came.as_str())
-        }
+        Ok(count) => script.due_text(format!(in script.alloc; "{count} changes")?),
+        Err(why) => script.due_text(refusal_text(script.alloc, why)?),
     }
 }
 
@@ -222,8 +212,7 @@ pub fn joins(script: &mut Script<'_>, rows: &mut Rows) -> Result<(), Stop> {
             }
         }
     }
-    let came = format!(in script.alloc; "{joined} joined{refusals}")?;
-    script.due(came.as_str())
+    script.due_text(format!(in script.alloc; "{joined} joined{refusals}")?)
 }
 
 /// Merges the entity of one numbered property.

@@ -70,8 +70,7 @@ pub fn rising_keys(script: &mut Script<'_>) -> Result<(), Stop> {
         let key = key_at(script, "at")?;
         keys.push(key)?;
     }
-    let came = order_of(script.alloc, keys.as_slice())?;
-    script.due(came.as_str())
+    script.due_text(order_of(script.alloc, keys.as_slice())?)
 }
 
 /// Whether the keys are ordered as they are listed, each pair of them.

@@ -102,10 +102,9 @@ fn due_messages(script: &mut Script<'_>, input: &[u8]) -> Result<(), Stop> {
     };
     match cut {
         None => script.due(whole.as_str()),
-        Some(other) => {
-            let came = format!(in script.alloc; "{whole}, but cut otherwise {other}")?;
-            script.due(came.as_str())
-        }
+        Some(other) => script.due_text(format!(in script.alloc;
+            "{whole}, but cut otherwise {other}"
+        )?),
     }
 }
 
@@ -210,14 +209,8 @@ fn faulty(script: &mut Script<'_>) -> Result<(), Stop> {
     };
     let mut source = MemSource::new(script.block()?, fails);
     match read_message(script.alloc, &mut source, &mut Vec::new(script.alloc)) {
-        Ok(message) => {
-            let came = headers_text(script.alloc, &message, names.as_str())?;
-            script.due(came.as_str())
-        }
-        Err(why) => {
-            let came = format!(in script.alloc; "{why:?}")?;
-            script.due(came.as_str())
-        }
+        Ok(message) => script.due_text(headers_text(script.alloc, &message, names.as_str())?),
+        Err(why) => script.due_text(format!(in script.alloc; "{why:?}")?),
     }
 }
 

@@ -53,10 +53,7 @@ pub fn tick_of(script: &Script<'_>, text: &str) -> Result<u64, Stop>
 
 fn due_tick(script: &mut Script<'_>, tick: Option<u64>) -> Result<(), Stop> {
     match tick {
-        Some(tick) => {
-            let came = format!(in script.alloc; "tick {tick}")?;
-            script.due(came.as_str())
-        }
+        Some(tick) => script.due_text(format!(in script.alloc; "tick {tick}")?),
         None => script.due("refused"),
     }
 }
@@ -71,6 +68,5 @@ fn due_text(
     if again == Some(tick) {
         return script.due(text);
     }
-    let came = format!(in script.alloc; "{text}, which is not read as {tick}")?;
-    script.due(came.as_str())
+    script.due_text(format!(in script.alloc; "{text}, which is not read as {tick}")?)
 }

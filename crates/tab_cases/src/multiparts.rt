@@ -29,8 +29,7 @@ fn multipart(script: &mut Script<'_>) -> Result<(), Stop> {
     let mark = bytes.iter().position(|byte| *byte == MARK);
     bytes.retain(|byte| *byte != MARK);
     let read = read_batch(script.alloc, boundary.as_bytes(), &bytes);
-    let came = batch_text(script.alloc, &read, mark)?;
-    script.due(came.as_str())
+    script.due_text(batch_text(script.alloc, &read, mark)?)
 }
 
 fn batch_text(
@@ -65,8 +64,7 @@ fn boundary(script: &mut Script<'_>) -> Result<(), Stop> {
     match boundary_of(&value) {
         Some(boundary) => {
             let text = str::from_utf8(boundary).unwrap_or("?");
-            let came = format!(in script.alloc; "'{text}'")?;
-            script.due(came.as_str())
+            script.due_text(format!(in script.alloc; "'{text}'")?)
         }
         None => script.due("none"),
     }

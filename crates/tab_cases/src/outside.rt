@@ -70,10 +70,7 @@ fn source(script: &mut Script<'_>) -> Result<(), Stop> {
 
 fn due_byte(script: &mut Script<'_>, source: &mut MemSource) -> Result<(), Stop> {
     match read_byte(source) {
-        Ok(Some(byte)) => {
-            let came = format!(in script.alloc; "byte {}", char::from(byte))?;
-            script.due(came.as_str())
-        }
+        Ok(Some(byte)) => script.due_text(format!(in script.alloc; "byte {}", char::from(byte))?),
         Ok(None) => script.due("end"),
         Err(_) => script.due("failed"),
     }
@@ -90,8 +87,7 @@ fn due_read(script: &mut Script<'_>, count: Option<usize>, buffer: &[u8]) -> Res
         return script.due("failed");
     };
     let text = String::from_utf8_lossy(script.alloc, buffer)?;
-    let came = format!(in script.alloc; "{count} bytes, {text}")?;
-    script.due(came.as_str())
+    script.due_text(format!(in script.alloc; "{count} bytes, {text}")?)
 }
 
 fn due_fill(
@@ -107,8 +103,7 @@ fn due_fill(
         Err(FillRefused::Failed) => "failed",
         Err(FillRefused::Memory) => "no memory",
     };
-    let came = format!(in script.alloc; "{told}, {} bytes so far", filled.len())?;
-    script.due(came.as_str())
+    script.due_text(format!(in script.alloc; "{told}, {} bytes so far", filled.len())?)
 }
 
 /// `write BYTES` is one write, `all BYTES` and `reply BYTES` write the whole, and `taken` is what the sink took.
@@ -120,8 +115,7 @@ fn sink(script: &mut Script<'_>) -> Result<(), Stop> {
         match script.next_word() {
             "write" => {
                 let bytes = script.bytes("write")?;
-                let came = written_text(script.alloc, sink.write(&bytes).ok())?;
-                script.due(came.as_str())?;
+                script.due_text(written_text(script.alloc, sink.write(&bytes).ok())?)?;
             }
             "all" => {
                 let bytes = script.bytes("all")?;
@@ -186,10 +180,7 @@ fn plain_call(script: &mut Script<'_>, disk: &mut MemDisk) -> Result<(), Stop> {
         "len" => {
             script.raw("len")?;
             match disk.len() {
-                Ok(len) => {
-                    let came = format!(in script.alloc; "{len} bytes")?;
-                    script.due(came.as_str())
-                }
+                Ok(len) => script.due_text(format!(in script.alloc; "{len} bytes")?),
                 Err(_) => script.due("failed"),
             }
         }
@@ -215,8 +206,7 @@ fn clock(script: &mut Script<'_>) -> Result<(), Stop> {
             break;
         }
         script.raw("now")?;
-        let came = format!(in script.alloc; "tick {}", clock.now())?;
-        script.due(came.as_str())?;
+        script.due_text(format!(in script.alloc; "tick {}", clock.now())?)?;
     }
     Ok(())
 }

@@ -21,8 +21,7 @@ pub fn run(script: &mut Script<'_>, rows: &Rows) -> Result<(), Stop> {
         "page" => {
             let query = script.text("page")?;
             let page = paged(script, rows, query.as_str())?;
-            let came = page_text(script.alloc, &page)?;
-            script.due(came.as_str())
+            script.due_text(page_text(script.alloc, &page)?)
         }
         "size" => {
             let query = script.text("size")?;
@@ -90,8 +89,7 @@ fn bounded(script: &mut Script<'_>) -> Result<(), Stop> {
         return Err(script.unread("the bound stands before all keys"));
     };
     let page = empty_page(script, &span, &options)?;
-    let came = page_text(script.alloc, &page)?;
-    script.due(came.as_str())
+    script.due_text(page_text(script.alloc, &page)?)
 }
 
 /// The page of table 1 where it has no rows.

@@ -23,7 +23,7 @@ fn query(script: &mut Script<'_>) -> Result<(), Stop> {
         Ok(options) => asked_text(script.alloc, &options.try_copy(script.alloc)?)?,
         Err(why) => refusal_text(script.alloc, why)?,
     };
-    script.due(came.as_str())
+    script.due_text(came)
 }
 
 fn asked_text(alloc: Global, options: &Options) -> Result<String, AllocError> {
@@ -59,10 +59,7 @@ fn select(script: &mut Script<'_>) -> Result<(), Stop> {
             let names = names.try_copy(script.alloc)?;
             script.due(yes_or_no(names.contains(name.as_str())))
         }
-        Err(why) => {
-            let came = refusal_text(script.alloc, why)?;
-            script.due(came.as_str())
-        }
+        Err(why) => script.due_text(refusal_text(script.alloc, why)?),
     }
 }
 
@@ -72,12 +69,11 @@ fn token(script: &mut Script<'_>) -> Result<(), Stop> {
     match Token::read(script.alloc, text.as_str()) {
         Ok(key) => {
             let again = Token::text(script.alloc, &key)?;
-            let came = if again.as_str() == text.as_str() {
+            script.due_text(if again.as_str() == text.as_str() {
                 format!(in script.alloc; "of '{}'", key.as_str())?
             } else {
                 format!(in script.alloc; "of '{}', whose token is {again}", key.as_str())?
-            };
-            script.due(came.as_str())
+            })
         }
         Err(TokenRefused::BadToken) => script.due("refused"),
         Err(TokenRefused::Memory) => Err(Stop::Memory),

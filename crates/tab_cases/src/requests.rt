@@ -60,10 +60,10 @@ fn decided(script: &mut Script<'_>, keys: &Keys, now: u64) -> Result<(), Stop> {
     };
     match decide(script.alloc, &message, keys, now)? {
         Decided::Go(_) => script.due("taken"),
-        Decided::No(reply) => {
-            let came = format!(in script.alloc; "refused {}", error_text(reply.as_slice()))?;
-            script.due(came.as_str())
-        }
+        Decided::No(reply) => script.due_text(format!(in script.alloc;
+            "refused {}",
+            error_text(reply.as_slice())
+        )?),
     }
 }
 

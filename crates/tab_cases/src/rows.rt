@@ -143,10 +143,7 @@ fn change(script: &mut Script<'_>, rows: &mut Rows) -> Result<(), Stop> {
 
 fn due_tick(script: &mut Script<'_>, row: Option<&Row>) -> Result<(), Stop> {
     match row {
-        Some(row) => {
-            let came = format!(in script.alloc; "tick {}", row.tick)?;
-            script.due(came.as_str())
-        }
+        Some(row) => script.due_text(format!(in script.alloc; "tick {}", row.tick)?),
         None => script.due("none"),
     }
 }
@@ -162,8 +159,7 @@ fn look(script: &mut Script<'_>, rows: &Rows) -> Result<(), Stop> {
         "has" => value(script, rows),
         "len" => {
             script.raw("len")?;
-            let came = format!(in script.alloc; "{} rows", rows.len())?;
-            script.due(came.as_str())
+            script.due_text(format!(in script.alloc; "{} rows", rows.len())?)
         }
         "from" => {
             let key = key_at(script, "from")?;
@@ -173,8 +169,7 @@ fn look(script: &mut Script<'_>, rows: &Rows) -> Result<(), Stop> {
         _ => {
             script.raw("all")?;
             let key = key_of(script, "0", "", "")?;
-            let came = rows_text(script.alloc, rows.from(&key))?;
-            script.due(came.as_str())
+            script.due_text(rows_text(script.alloc, rows.from(&key))?)
         }
     }
 }
@@ -186,10 +181,7 @@ fn value(script: &mut Script<'_>, rows: &Rows) -> Result<(), Stop> {
     };
     let key = key_of(script, table.as_str(), pk.as_str(), rk.as_str())?;
     match rows.get(&key) {
-        Some(row) => {
-            let came = found_text(script.alloc, row.entity.get(name.as_str()))?;
-            script.due(came.as_str())
-        }
+        Some(row) => script.due_text(found_text(script.alloc, row.entity.get(name.as_str()))?),
         None => script.due("no row"),
     }
 }

@@ -147,6 +147,11 @@ impl<'s> Script<'s> {
         self.compare(&due, came.as_bytes())
     }
 
+    /// Compares the next line with a text that came.
+    pub fn due_text(&mut self, came: String) -> Result<(), Stop> {
+        self.due(came.as_str())
+    }
+
     /// Compares the next lines, as a block, with the bytes that came.
     pub fn due_block(&mut self, came: &[u8]) -> Result<(), Stop> {
         let due = self.block()?;

@@ -17,8 +17,7 @@ pub fn digest(script: &mut Script<'_>) -> Result<(), Stop> {
         return Err(script.unread("KEY | TEXT is wanted"));
     };
     let digest = hmac(key.as_bytes(), text.as_bytes());
-    let came = hex_text(script.alloc, "digest", &digest)?;
-    script.due(came.as_str())
+    script.due_text(hex_text(script.alloc, "digest", &digest)?)
 }
 
 /// `sign DATE | RESOURCE`: the signature.
@@ -27,8 +26,7 @@ pub fn sign(script: &mut Script<'_>, keys: &Keys) -> Result<(), Stop> {
     let [date, resource] = fields.as_slice() else {
         return Err(script.unread("DATE | RESOURCE is wanted"));
     };
-    let came = sign_lite(script.alloc, keys, date.as_str(), resource.as_str())?;
-    script.due(came.as_str())
+    script.due_text(sign_lite(script.alloc, keys, date.as_str(), resource.as_str())?)
 }
 
 /// `check PATH | COMP | AUTHORIZATION` with the date of the account's case and at its moment, where `none` stands for
@@ -46,10 +44,7 @@ pub fn checked(script: &mut Script<'_>, keys: &Keys, date: &str, now: u64) -> Re
     };
     match check(script.alloc, keys, &signed, now) {
         Ok(()) => script.due("taken"),
-        Err(why) => {
-            let came = format!(in script.alloc; "refused {why:?}")?;
-            script.due(came.as_str())
-        }
+        Err(why) => script.due_text(format!(in script.alloc; "refused {why:?}")?),
     }
 }
 
