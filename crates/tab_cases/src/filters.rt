@@ -12,11 +12,24 @@ use tab_edm::Entity;
 use tab_filter::{Filter, FilterRefused, Window, parse};
 use tab_keys::KeyText;
 
-/// `filter TEXT`: whether it is read. `candidate PK | RK | TICK | JSON` and lines `match FILTER`: whether the row
+/// What is left out of a tree as it prints itself, or is printed shorter, one after another.
+const SHORTER: [(&str, &str); 8] = [
+    ("Filter { root: ", ""),
+    ("Compare(Comparison { name: TextValue { text: ", ""),
+    (" }, operator: ", " "),
+    (", value: ", " "),
+    ("(TextValue { text: ", " "),
+    (" }) })", ""),
+    (" })", ""),
+    (" }", ""),
+];
+
+/// `filter TEXT`: whether it is read. `tree TEXT`: its tree. `candidate PK | RK | TICK | JSON` and lines `match FILTER`: whether the row
 /// matches. `window FILTER | PK | RK`: what holds of the key. `start FILTER`: the lower corner of the window.
 pub fn run(script: &mut Script<'_>) -> Result<(), Stop> {
     match script.next_word() {
         "filter" => filter(script),
+        "tree" => tree(script),
         "candidate" => candidate(script),
         "window" => window(script),
         _ => start(script),
@@ -37,6 +50,28 @@ pub fn refusal_text(alloc: Global, why: FilterRefused) -> Result<String, AllocEr
         FilterRefused::BadLiteral { at } => format!(in alloc; "refused BadLiteral at {at}"),
         other => format!(in alloc; "refused {other:?}"),
     }
+}
+
+fn tree(script: &mut Script<'_>) -> Result<(), Stop> {
+    let text = script.text("tree")?;
+    let filter = filter_of(script, text.as_str())?;
+    let mut came = format!(in script.alloc; "{filter:?}")?;
+    for (long, short) in SHORTER {
+        came = shortened(script.alloc, came.as_str(), long, short)?;
+    }
+    script.due_text(came)
+}
+
+/// A text with a short piece in the place of each long one.
+fn shortened(alloc: Global, text: &str, long: &str, short: &str) -> Result<String, AllocError> {
+    let mut shorter = String::new(alloc);
+    for (index, piece) in text.split(long).enumerate() {
+        if index > 0 {
+            shorter.push_str(short)?;
+        }
+        shorter.push_str(piece)?;
+    }
+    Ok(shorter)
 }
 
 /// The filter of a text that has to be one, as a copy of what is read.

@@ -34,7 +34,7 @@ fn run_case(script: &mut Script<'_>) -> Result<(), Stop> {
         "body" | "value" | "typed" | "name" => bodies::run(script),
         "row" => written::run(script),
         "made" | "tables" | "error" => written::tables_and_errors(script),
-        "filter" | "candidate" | "window" | "start" => filters::run(script),
+        "filter" | "tree" | "candidate" | "window" | "start" => filters::run(script),
         "query" | "select" | "token" => queries::run(script),
         "rows" => rows::run(script),
         "message" | "head" | "faulty" => messages::run(script),
