@@ -105,7 +105,7 @@ fn serve(rt: &HostRuntime, invocation: Invocation<'_>) -> Result<u8, Memory>
 fn memory_yard(alloc: Global, servers: usize) -> Result<Vec<MemDisk>, Memory>
     requires few { servers ≤ 8 }
     ensures count { IfOk result (λ yard. vec_len yard ≡ 2 * (servers + 2)) }
-    ensures empty { IfOk result (λ yard. All (λ disk. disk.bytes ≡ []) yard.items) }
+    ensures empty { IfOk result (λ yard. All (λ disk. disk.log ≡ []) yard.items) }
 {
     let mut yard = Vec::new(alloc);
     for _ in 0..2 * (servers + SHARED_PAIRS) {
