@@ -35,10 +35,10 @@ gives_still history legal = followed_still first_state history is_world legal
 pub tells_rows : (history : List Entry) → Legal first_state history → TicksTellRows first_state history
 tells_rows history legal = ticks_tell_rows first_state history is_world legal
 
-pub rises : (history : List Entry) → Legal first_state history → TicksRise history
+pub rises : (history : List Entry) → Legal first_state history → TicksRise first_state history
 rises history legal = ticks_rise first_state history legal
 
-pub numbers : (history : List Entry) → Legal first_state history → NumbersRise history
+pub numbers : (history : List Entry) → Legal first_state history → NumbersRise first_state history
 numbers history legal = numbers_rise first_state history legal
 
 pub made : (history : List Entry) → Legal first_state history → MadeNew first_state history

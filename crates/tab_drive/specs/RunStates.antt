@@ -51,7 +51,7 @@ first_world = record {
 
 -- before any entry
 abbrev pub first_state : State
-first_state = record { world = first_world; bounds = []; tables = []; doubts = [] }
+first_state = record { world = first_world; bounds = []; tables = []; doubts = []; commit = None }
 
 -- what an opening adds to the history: the bound of the one range
 abbrev pub opening : Entry
@@ -70,7 +70,7 @@ tick_after next (Some (doubt.Drop name)) = next
 
 abbrev pub next_tick_after : ℕ → List Entry → ℕ
 next_tick_after next [] = next
-next_tick_after next (entry ∷ entries) = next_tick_after (tick_after next (accepted entry)) entries
+next_tick_after next (entry ∷ entries) = next_tick_after (tick_after next (accepted [] entry)) entries
 
 abbrev pub moment_after : ℕ → Scheduled → ℕ
 moment_after moment (Now later) = later

@@ -54,11 +54,11 @@ pub fn run<S: Source, K: Sink, D: Disk, C: Clock>(
     ensures still { FollowedStill first_state result.history }
 
     // Of two changes of one key the later has the greater tick, so an ETag tells one version of a row.
-    ensures ticks { TicksRise result.history }
+    ensures ticks { TicksRise first_state result.history }
     ensures versions { TicksTellRows first_state result.history }
 
     // A table that is made has a new number, and no row. So the rows of a table that was dropped are never found again.
-    ensures numbers { NumbersRise result.history }
+    ensures numbers { NumbersRise first_state result.history }
     ensures made { MadeNew first_state result.history }
     ensures dropped { DropsHide first_state result.history }
 

@@ -23,7 +23,7 @@ use Rattle.tab_rows.proofs.Lists.{AllPairs-append}
 use Rattle.tab_page.proofs.RisingLists.{All-from_each, Contains-here, Contains-there}
 use Rattle.tab_history.specs.World.{IsWorld, table_of}
 use Rattle.tab_history.specs.Legality.{State, after, after_all, Allows, Legal}
-use Rattle.tab_history.specs.Followed.{Asked, Leg, Query, resolve_of, page_entry, entries_from, entries_of, rows_from, GoesOn, IsFollowedFrom, at_first, IsUnwritten, pair_lt, first_key, IsRight, AreRight, FollowedWell}
+use Rattle.tab_history.specs.Followed.{Asked, Leg, Query, resolve_of, page_entry, entries_from, entries_of, rows_from, GoesOn, IsFollowedFrom, at_first, Leaves, IsUnwritten, pair_lt, first_key, IsRight, AreRight, FollowedWell}
 use Rattle.tab_history.specs.declared.entries.Entry.{Entry}
 use Rattle.tab_history.proofs.HistoryLaws.{Legal-parts, rising_after, each_append, unwritten_row, unwritten_name, table_of-folded}
 
@@ -134,18 +134,18 @@ pages_right state asked (leg ∷ legs) rising legal =
     (page_right state asked rising legal.0, pages_right (after_all (after state (page_entry asked)) leg.between) leg.asked legs (rising_after (after state (page_entry asked)) leg.between parts.0 rising) parts.1)
 
 -- a look-up that comes after is of the same table, where the name keeps its number
-pub looked_up : (key : Key) (name : List ℕ) (state : State) (before : Asked) (leg : Leg) (go : GoesOn before leg) → Legal state leg.between → IsUnwritten key name leg.between → folded before.name ≡ folded name
+pub looked_up : (key : Key) (name : List ℕ) (state : State) (before : Asked) (leg : Leg) (go : GoesOn before leg) → Legal state leg.between → IsUnwritten key name state leg.between → folded before.name ≡ folded name
     → table_of state.world.names name ≡ Some before.table → leg.asked.table ≡ before.table
 looked_up key name state before leg go legal unwritten folds given =
     let legal_parts = Legal-parts state go.idle (resolve_of leg.asked ∷ go.waiting) (subst (Legal state) go.between legal) in
-    let unwritten_parts = each_append _ go.idle (resolve_of leg.asked ∷ go.waiting) (subst (IsUnwritten key name) go.between unwritten) in
+    let unwritten_parts = each_append (Leaves key name) state go.idle (resolve_of leg.asked ∷ go.waiting) (subst (IsUnwritten key name state) go.between unwritten) in
     let kept = unwritten_name key name state go.idle (Some before.table) legal_parts.0 unwritten_parts.0 given in
     let resolved : Some leg.asked.table ≡ table_of (after_all state go.idle).world.names leg.asked.name = legal_parts.1.0 in
     same_Some leg.asked.table before.table (resolved ∙ (table_of-folded (after_all state go.idle).world.names leg.asked.name name (go.name ∙ folds) ∙ kept))
 
 -- a row that the query asks for, from its start on, whose key is unwritten to the last page, is one of the rows
 pub rows_whole : (key : Key) (name : List ℕ) (row : RowView) (state : State) (asked : Asked) (legs : List Leg) → AreRising state.world.rows → Legal state (entries_from asked legs) → IsFollowedFrom asked legs
-    → IsUnwritten key name (entries_from asked legs) → folded asked.name ≡ folded name → table_of state.world.names name ≡ Some asked.table
+    → IsUnwritten key name state (entries_from asked legs) → folded asked.name ≡ folded name → table_of state.world.names name ≡ Some asked.table
     → row_at state.world.rows key ≡ Some row → row.key.table ≡ asked.table → matches asked.options row ≡ true → pairs_lt (pair_of row.key) (start_pair asked.options) ≡ false
     → Contains (rows_from asked legs) row
 rows_whole key name row state asked [] rising legal followed unwritten folds given here table m from =
@@ -159,7 +159,7 @@ rows_whole key name row state asked (leg ∷ legs) rising legal followed unwritt
     let go = followed.0 in
     let paged = after state (page_entry asked) in
     let parts = Legal-parts paged leg.between (entries_from leg.asked legs) legal.1 in
-    let spared = each_append _ leg.between (entries_from leg.asked legs) unwritten.1 in
+    let spared = each_append (Leaves key name) paged leg.between (entries_from leg.asked legs) unwritten.1 in
     let same = looked_up key name paged asked leg go parts.0 spared.0 folds given in
     ⊎_elim
     (λ within. Contains-append_left asked.page.rows (rows_from leg.asked legs) row within)
@@ -203,7 +203,7 @@ followed_well opening history world legal = record {
   whole = λ before later query e followed key row here table from m unwritten.
       let it = had opening history before later query world legal e in
       let state = after_all opening before in
-      let parts = each_append _ (resolve_of query.first ∷ query.waiting) (entries_from query.first query.legs) unwritten in
+      let parts = each_append (Leaves key query.first.name) state (resolve_of query.first ∷ query.waiting) (entries_from query.first query.legs) unwritten in
       let same = (row_at-found (at_first state query).world.rows key row here).1 in
       let tables : row.key.table ≡ query.first.table = same_table row.key key same ∙ table in
       rows_whole key query.first.name row (at_first state query) query.first query.legs it.rising it.pages followed

@@ -8,7 +8,7 @@ use Rattle.tab_keys.specs.Order.{same_key}
 use Rattle.tab_keys.specs.declared.keys.Key.{Key}
 use Rattle.tab_edm.specs.Entities.{EntityView}
 use Rattle.tab_rows.specs.Rows.{RowView, AreRising, row_at}
-use Rattle.tab_rows.proofs.RowLaws.{AreRising-with_row, AreRising-without_row, row_at-with_row_other, row_at-without_row_other, All-with_row, All-without_row}
+use Rattle.tab_rows.proofs.RowLaws.{row_at-with_row_other, row_at-without_row_other, All-with_row, All-without_row}
 use Rattle.tab_page.proofs.RisingLists.{Contains-here, Contains-there}
 use Rattle.tab_ops.specs.Groups.{ItemView, item_key}
 use Rattle.tab_keys.specs.Results.{◌>>=◌}

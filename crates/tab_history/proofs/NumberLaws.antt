@@ -13,7 +13,7 @@ use Rattle.tab_history.specs.declared.entries.Entry.TheVariants as entry
 use Rattle.tab_history.specs.declared.entries.Doubt.{Doubt}
 use Rattle.tab_history.specs.declared.entries.Doubt.TheVariants as doubt
 use Rattle.tab_history.proofs.NameLaws.{is_named, All-with_name}
-use Rattle.tab_history.proofs.HistoryLaws.{Acts, allowed_acts, kept, Legal-parts}
+use Rattle.tab_history.proofs.HistoryLaws.{Acts, allowed_acts, kept, after_all-append, Legal-parts}
 use Rattle.tab_history.proofs.WorldLaws.{worlds_stay}
 
 -- ---- the next number
@@ -34,15 +34,16 @@ made number world (Some (doubt.Change table group tick)) a makes = absurd makes
 made number world (Some (doubt.Create name table)) a makes = (sym makes ∙ a.1, ap (λ n. n + 1) makes)
 made number world (Some (doubt.Drop name)) a makes = absurd makes
 
-pub numbers_rise : (opening : State) (history : List Entry) → Legal opening history → NumbersRise history
+pub numbers_rise : (opening : State) (history : List Entry) → Legal opening history → NumbersRise opening history
 numbers_rise opening history legal before between later first second number next e makes again =
     let outer = Legal-parts opening before (first ∷ (between ++ (second ∷ later))) (subst (Legal opening) e legal) in
     let state = after_all opening before in
     let inner = Legal-parts (after state first) between (second ∷ later) outer.1.1 in
     let reached = after_all (after state first) between in
-    let past : (after state first).world.next_table ≡ number + 1 = (made number state.world (accepted first) (allowed_acts state first outer.1.0) makes).1 in
+    let past : (after state first).world.next_table ≡ number + 1 = (made number state.world (accepted state.doubts first) (allowed_acts state first outer.1.0) makes).1 in
     let rises : number + 1 ≤ reached.world.next_table = next_after (number + 1) (after state first) between inner.0 (omega (arith, past)) in
-    let from : next ≡ reached.world.next_table = (made next reached.world (accepted second) (allowed_acts reached second inner.1.0) again).0 in
+    let from : next ≡ reached.world.next_table = (made next reached.world (accepted reached.doubts second) (allowed_acts reached second inner.1.0)
+    (subst (λ (it : State). IsSomeAnd (accepted it.doubts second) (Makes next)) (after_all-append opening before (first ∷ between)) again)).0 in
     omega (arith, rises, from)
 
 -- a number from the next one on is new
@@ -60,7 +61,7 @@ pub made_new : (opening : State) (history : List Entry) → IsWorld opening.worl
 made_new opening history world told legal before later entry number e makes =
     let parts = Legal-parts opening before (entry ∷ later) (subst (Legal opening) e legal) in
     let state = after_all opening before in
-    let next : number ≡ state.world.next_table = (made number state.world (accepted entry) (allowed_acts state entry parts.1.0) makes).0 in
+    let next : number ≡ state.world.next_table = (made number state.world (accepted state.doubts entry) (allowed_acts state entry parts.1.0) makes).0 in
     is_new state.world number (worlds_stay opening before world told parts.0).0 (omega (arith, next))
 
 -- ---- a name that was dropped
@@ -122,6 +123,6 @@ drops_hide opening history world told legal before between later drop ask name a
     let inner = Legal-parts (after state drop) between (entry.Resolve ask again table ∷ later) outer.1.1 in
     let reached = after_all (after state drop) between in
     let n = state.world.next_table in
-    let is_later = kept (IsLater n name) (acted-later n name) (after state drop) between inner.0 (dropped-later name state.world (accepted drop) drops) in
+    let is_later = kept (IsLater n name) (acted-later n name) (after state drop) between inner.0 (dropped-later name state.world (accepted state.doubts drop) drops) in
     all_new state.world table (worlds_stay opening before world told outer.0).0
     (subst (λ (found : Option ℕ). IfSome found (λ number. n ≤ number)) (sym inner.1.0) (found_later n name again reached.world.names folds is_later.1))

@@ -1,6 +1,6 @@
 -- Where nothing is written, a followed query gives all that it asks for, in few pages.
 use Rattle.std.proofs.Common.{◌≡◌, ℕ, suc, ◌+◌, ◌*◌, ◌/◌, ◌<◌, ◌≤◌, List, [], ◌∷◌, ◌++◌, Bool, true, false, cond, not, ◌&&◌, ◌==◌, length, filter, All, Contains, refl, sym, ap, ◌∙◌, subst, inl, inr, ◌⊎◌, ⊎_elim, arith}
-use Rattle.std.specs.Prelude.{Some, None, IfSome, IsTrue}
+use Rattle.std.specs.Prelude.{Some, IfSome, IsTrue}
 use Rattle.std.specs.List.{AllByRecursion}
 use Rattle.std.proofs.Math.Nat.{le-div_iff_mul-le}
 use Rattle.std.specs.declared.cmp.Ordering.{Ordering}
@@ -22,26 +22,31 @@ use Rattle.tab_page.proofs.RisingLists.{Contains-filter, Contains-filtered, All-
 use Rattle.tab_page.proofs.OnePageLaws.{pair_of, key_lt_in_table, pair_from_start, listed_parts, listed_from}
 use Rattle.tab_page.proofs.PageCounts.{rows_ahead, matches_ahead, bounds_ahead, count_le, strictly_apart, one_way_rising, page_uses_up}
 use Rattle.tab_history.specs.World.{World, IsWorld, table_of}
-use Rattle.tab_history.specs.Legality.{State, accepted, bounds_after, world_after, after, after_all, Legal}
+use Rattle.tab_history.specs.Legality.{State, bounds_after, world_after, after, after_all, Legal}
 use Rattle.tab_history.specs.Followed.{Asked, Leg, Query, resolve_of, page_entry, entries_from, entries_of, rows_from, rows_of, IsFollowedFrom, IsFollowed, at_first, Leaves, IsUnwritten, IsStill, pair_lt, first_key, is_answer, is_in_window, HasAllBounds, FollowedStill}
 use Rattle.tab_history.specs.declared.entries.Entry.{Entry}
 use Rattle.tab_history.proofs.FollowedLaws.{pair_total, row_at-own, page_one, rows_start, rows_rise, looked_up, rows_whole, Had, had, Rises}
-use Rattle.tab_history.proofs.HistoryLaws.{Legal-parts, rising_after, each_append, unwritten_name}
+use Rattle.tab_history.proofs.HistoryLaws.{Legal-parts, rising_after, unwritten_name}
 
 -- ---- what stays where no operation is accepted
 
-still_unwritten : (key : Key) (name : List ℕ) (entries : List Entry) → IsStill entries → IsUnwritten key name entries
-still_unwritten key name [] still = tt
-still_unwritten key name (entry ∷ entries) still =
-    (subst (λ operation. IfSome operation (Leaves key name)) (sym still.0) tt, still_unwritten key name entries still.1)
+still_unwritten : (key : Key) (name : List ℕ) (state : State) (entries : List Entry) → IsStill state entries → IsUnwritten key name state entries
+still_unwritten key name state [] still = tt
+still_unwritten key name state (entry ∷ entries) still =
+    (subst (λ operation. IfSome operation (Leaves key name)) (sym still.0) tt, still_unwritten key name (after state entry) entries still.1)
+
+-- what is still is so in its two parts
+still_parts : (state : State) (xs ys : List Entry) → IsStill state (xs ++ ys) → IsStill state xs × IsStill (after_all state xs) ys
+still_parts state [] ys h = (tt, h)
+still_parts state (x ∷ xs) ys h = let rest = still_parts (after state x) xs ys h.1 in ((h.0, rest.0), rest.1)
 
 -- the world stays
-still_world : (state : State) (entries : List Entry) → IsStill entries → (after_all state entries).world ≡ state.world
+still_world : (state : State) (entries : List Entry) → IsStill state entries → (after_all state entries).world ≡ state.world
 still_world state [] still = refl
 still_world state (entry ∷ entries) still = still_world (after state entry) entries still.1 ∙ ap (world_after state.world) still.0
 
 -- each row is one of the world at the first page, of its table, and one that the query asks for
-still_right : (name : List ℕ) (state : State) (asked : Asked) (legs : List Leg) → AreRising state.world.rows → Legal state (entries_from asked legs) → IsFollowedFrom asked legs → IsStill (entries_from asked legs)
+still_right : (name : List ℕ) (state : State) (asked : Asked) (legs : List Leg) → AreRising state.world.rows → Legal state (entries_from asked legs) → IsFollowedFrom asked legs → IsStill state (entries_from asked legs)
     → folded asked.name ≡ folded name → table_of state.world.names name ≡ Some asked.table
     → (row : RowView) → Contains (rows_from asked legs) row → Contains state.world.rows row × (row.key.table ≡ asked.table) × (matches asked.options row ≡ true)
 still_right name state asked [] rising legal followed still folds given row within = (page_one state asked rising legal.0).right row within
@@ -49,8 +54,8 @@ still_right name state asked (leg ∷ legs) rising legal followed still folds gi
     let go = followed.0 in
     let paged = after state (page_entry asked) in
     let parts = Legal-parts paged leg.between (entries_from leg.asked legs) legal.1 in
-    let stills = each_append _ leg.between (entries_from leg.asked legs) still.1 in
-    let unwritten = still_unwritten (first_key asked) name leg.between stills.0 in
+    let stills = still_parts paged leg.between (entries_from leg.asked legs) still.1 in
+    let unwritten = still_unwritten (first_key asked) name paged leg.between stills.0 in
     let same = looked_up (first_key asked) name paged asked leg go parts.0 unwritten folds given in
     ⊎_elim
     (λ here. (page_one state asked rising legal.0).right row here)
@@ -82,7 +87,7 @@ pairs_one_way : (x y : RowView) → Rises x y → Rises y x → ⊥
 pairs_one_way x y h k = true≢false (sym k ∙ lt_asymmetric pair_total (pair_of x.key) (pair_of y.key) h)
 
 -- the rows of a query that is followed in a still world
-still_rows : (state : State) (asked : Asked) (legs : List Leg) → AreRising state.world.rows → Legal state (entries_from asked legs) → IsFollowedFrom asked legs → IsStill (entries_from asked legs)
+still_rows : (state : State) (asked : Asked) (legs : List Leg) → AreRising state.world.rows → Legal state (entries_from asked legs) → IsFollowedFrom asked legs → IsStill state (entries_from asked legs)
     → table_of state.world.names asked.name ≡ Some asked.table → rows_from asked legs ≡ filter (is_answer asked) state.world.rows
 still_rows state asked legs rising legal followed still given =
     same_rising Rises pairs_apart pairs_one_way (rows_from asked legs) (filter (is_answer asked) state.world.rows)
@@ -98,7 +103,7 @@ still_rows state asked legs rising legal followed still given =
     (λ row within.
     let found = Contains-filtered (is_answer asked) state.world.rows row within in
     let parts = answer_parts asked row found.1 in
-    rows_whole row.key asked.name row state asked legs rising legal followed (still_unwritten row.key asked.name (entries_from asked legs) still) refl given
+    rows_whole row.key asked.name row state asked legs rising legal followed (still_unwritten row.key asked.name state (entries_from asked legs) still) refl given
     (row_at-own state.world.rows rising row found.0) parts.0 parts.2 (sym (key_lt_in_table row.key (first_key asked) parts.0) ∙ parts.1))
 
 -- ---- how many pages
@@ -152,7 +157,7 @@ abbrev Counted : List Bound → ℕ → List RowView → ℕ → Options → Typ
 Counted ever legs rows table options =
     Count options.top (length (matches_ahead rows table options)) (length (rows_ahead rows table options)) (length (bounds_ahead ever table options)) legs
 
-pages_counted : (name : List ℕ) (ever : List Bound) (state : State) (asked : Asked) (legs : List Leg) → AreRising state.world.rows → Legal state (entries_from asked legs) → IsFollowedFrom asked legs → IsStill (entries_from asked legs)
+pages_counted : (name : List ℕ) (ever : List Bound) (state : State) (asked : Asked) (legs : List Leg) → AreRising state.world.rows → Legal state (entries_from asked legs) → IsFollowedFrom asked legs → IsStill state (entries_from asked legs)
     → folded asked.name ≡ folded name → table_of state.world.names name ≡ Some asked.table → HasAllBounds ever state (entries_from asked legs)
     → Counted ever (length legs) state.world.rows asked.table asked.options
 pages_counted name ever state asked [] rising legal followed still folds given bounds =
@@ -161,8 +166,8 @@ pages_counted name ever state asked (leg ∷ legs) rising legal followed still f
     let go = followed.0 in
     let paged = after state (page_entry asked) in
     let parts = Legal-parts paged leg.between (entries_from leg.asked legs) legal.1 in
-    let stills = each_append _ leg.between (entries_from leg.asked legs) still.1 in
-    let unwritten = still_unwritten (first_key asked) name leg.between stills.0 in
+    let stills = still_parts paged leg.between (entries_from leg.asked legs) still.1 in
+    let unwritten = still_unwritten (first_key asked) name paged leg.between stills.0 in
     let same = looked_up (first_key asked) name paged asked leg go parts.0 unwritten folds given in
     let later = pages_counted name ever (after_all paged leg.between) leg.asked legs (rising_after paged leg.between parts.0 rising) parts.1 followed.1 stills.1 (go.name ∙ folds)
     (unwritten_name (first_key asked) name paged leg.between (Some asked.table) parts.0 unwritten given ∙ ap Some (sym same))
@@ -237,20 +242,20 @@ bounds_that_stay state entries same = all_the_same state.bounds state entries re
 -- ---- a query in a history
 
 module _ (opening : State) (history : List Entry) (world : IsWorld opening.world) (legal : Legal opening history) (before later : List Entry) (query : Query) (e : history ≡ before ++ (entries_of query ++ later))
-    (followed : IsFollowed query) (still : IsStill (entries_of query)) where
+    (followed : IsFollowed query) (still : IsStill (after_all opening before) (entries_of query)) where
   abbrev first_state : State
   first_state = at_first (after_all opening before) query
 
   it : Had opening before query
   it = had opening history before later query world legal e
 
-  stills : IsStill (resolve_of query.first ∷ query.waiting) × IsStill (entries_from query.first query.legs)
-  stills = each_append (λ entry. accepted entry ≡ None) (resolve_of query.first ∷ query.waiting) (entries_from query.first query.legs) still
+  stills : IsStill (after_all opening before) (resolve_of query.first ∷ query.waiting) × IsStill first_state (entries_from query.first query.legs)
+  stills = still_parts (after_all opening before) (resolve_of query.first ∷ query.waiting) (entries_from query.first query.legs) still
 
   named : table_of first_state.world.names query.first.name ≡ Some query.first.table
   named =
       unwritten_name (first_key query.first) query.first.name (after_all opening before) (resolve_of query.first ∷ query.waiting) (Some query.first.table) it.first
-      (still_unwritten (first_key query.first) query.first.name (resolve_of query.first ∷ query.waiting) stills.0) (sym it.first.0)
+      (still_unwritten (first_key query.first) query.first.name (after_all opening before) (resolve_of query.first ∷ query.waiting) stills.0) (sym it.first.0)
 
   all_answers : rows_of query ≡ filter (is_answer query.first) first_state.world.rows
   all_answers = still_rows first_state query.first query.legs it.rising it.pages followed stills.1 named

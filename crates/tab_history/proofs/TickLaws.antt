@@ -132,14 +132,16 @@ entry-floor : (key : Key) (tick : ℕ) (world : World) (operation : Option Doubt
 entry-floor key tick world None a changes = absurd changes
 entry-floor key tick world (Some operation) a changes = changed-floor key tick world operation a changes
 
-pub ticks_rise : (opening : State) (history : List Entry) → Legal opening history → TicksRise history
+pub ticks_rise : (opening : State) (history : List Entry) → Legal opening history → TicksRise opening history
 ticks_rise opening history legal before between later first second key tick next e changes again =
     let outer = Legal-parts opening before (first ∷ (between ++ (second ∷ later))) (subst (Legal opening) e legal) in
     let state = after_all opening before in
     let inner = Legal-parts (after state first) between (second ∷ later) outer.1.1 in
-    let past = (entry-floor key tick state.world (accepted first) (allowed_acts state first outer.1.0) changes).1 in
+    let past = (entry-floor key tick state.world (accepted state.doubts first) (allowed_acts state first outer.1.0) changes).1 in
     let rises = floor_after key (after state first) between inner.0 in
-    let from = (entry-floor key next (after_all (after state first) between).world (accepted second) (allowed_acts (after_all (after state first) between) second inner.1.0) again).0 in
+    let reached = after_all (after state first) between in
+    let from = (entry-floor key next reached.world (accepted reached.doubts second) (allowed_acts reached second inner.1.0)
+    (subst (λ (it : State). IsSomeAnd (accepted it.doubts second) (Changes key next)) (after_all-append opening before (first ∷ between)) again)).0 in
     let low : tick + 1 ≤ floor_of (after_all (after state first) between).world.floors key = subst (λ n. n ≤ floor_of (after_all (after state first) between).world.floors key) past rises in
     omega (arith, low, from)
 
@@ -230,17 +232,17 @@ operation_tells key world (Some (doubt.Change table group tick)) a = by_test (ch
     by_test false e = inl (none_of_them (group_keys table group) key e)
 
 entries_tell : (key : Key) (state : State) (entries : List Entry) → Legal state entries
-    → IsUnchanged key entries ⊎ ((row : RowView) → row_at (after_all state entries).world.rows key ≡ Some row → floor_of state.world.floors key ≤ row.tick)
+    → IsUnchanged key state entries ⊎ ((row : RowView) → row_at (after_all state entries).world.rows key ≡ Some row → floor_of state.world.floors key ≤ row.tick)
 entries_tell key state [] legal = inl tt
 entries_tell key state (entry ∷ entries) legal =
-    both (entries_tell key (after state entry) entries legal.1) (operation_tells key state.world (accepted entry) (allowed_acts state entry legal.0))
+    both (entries_tell key (after state entry) entries legal.1) (operation_tells key state.world (accepted state.doubts entry) (allowed_acts state entry legal.0))
   where
     rises : floor_of state.world.floors key ≤ floor_of (after state entry).world.floors key
     rises = floor_after key state (entry ∷ []) (legal.0, tt)
 
-    both : IsUnchanged key entries ⊎ ((row : RowView) → row_at (after_all (after state entry) entries).world.rows key ≡ Some row → floor_of (after state entry).world.floors key ≤ row.tick)
-        → IfSome (accepted entry) (Spares key) ⊎ ((row : RowView) → row_at (after state entry).world.rows key ≡ Some row → floor_of state.world.floors key ≤ row.tick)
-        → IsUnchanged key (entry ∷ entries) ⊎ ((row : RowView) → row_at (after_all (after state entry) entries).world.rows key ≡ Some row → floor_of state.world.floors key ≤ row.tick)
+    both : IsUnchanged key (after state entry) entries ⊎ ((row : RowView) → row_at (after_all (after state entry) entries).world.rows key ≡ Some row → floor_of (after state entry).world.floors key ≤ row.tick)
+        → IfSome (accepted state.doubts entry) (Spares key) ⊎ ((row : RowView) → row_at (after state entry).world.rows key ≡ Some row → floor_of state.world.floors key ≤ row.tick)
+        → IsUnchanged key state (entry ∷ entries) ⊎ ((row : RowView) → row_at (after_all (after state entry) entries).world.rows key ≡ Some row → floor_of state.world.floors key ≤ row.tick)
     both (inr later) first = inr (λ row h. let from : floor_of (after state entry).world.floors key ≤ row.tick = later row h in omega (arith, rises, from))
     both (inl unchanged) (inl spared) = inl (spared, unchanged)
     both (inl unchanged) (inr put) = inr (λ row h. put row (sym (unchanged_after key (after state entry) entries legal.1 unchanged) ∙ h))
@@ -257,7 +259,7 @@ ticks_tell_rows opening history world legal before between later key row other e
     kept_there : row_at (after_all state between).world.rows key ≡ Some other
     kept_there = ap (λ (it : State). row_at it.world.rows key) (sym (after_all-append opening before between)) ∙ there
 
-    by_change : Legal opening before → Legal state between → IsUnchanged key between ⊎ ((found : RowView) → row_at (after_all state between).world.rows key ≡ Some found → floor_of state.world.floors key ≤ found.tick) → IsUnchanged key between × (row ≡ other)
+    by_change : Legal opening before → Legal state between → IsUnchanged key state between ⊎ ((found : RowView) → row_at (after_all state between).world.rows key ≡ Some found → floor_of state.world.floors key ≤ found.tick) → IsUnchanged key state between × (row ≡ other)
     by_change first rest (inl unchanged) = (unchanged, same_Some row other (sym here ∙ (sym (unchanged_after key state between rest unchanged) ∙ kept_there)))
     by_change first rest (inr from) =
         let found = row_at-found state.world.rows key row here in

@@ -38,6 +38,7 @@ opening = record {
   bounds = At 0 [] ∷ [];
   tables = [];
   doubts = [];
+  commit = None;
 }
 
 -- the row at `d` is inserted

@@ -1,6 +1,5 @@
 -- Queries that are followed to their end, page by page, and what their pages give together.
 use Rattle.std.specs.Prelude.{◌≡◌, ℕ, ◌+◌, ◌/◌, ◌<◌, ◌≤◌, List, [], ◌∷◌, ◌++◌, length, filter, Bool, false, not, ◌&&◌, ◌==◌, All, AllPairs, Contains, IsTrue, IfSome, Some, None, unwrap_or, bytes_eq, ⊤}
-use Rattle.std.specs.List.{AllByRecursion}
 use Rattle.std.specs.Ordering.{ordering_then, is_lt}
 use Rattle.tab_keys.specs.Order.{text_cmp, key_lt, same_key}
 use Rattle.tab_keys.specs.TableNames.{folded}
@@ -96,9 +95,14 @@ Spares key (doubt.Change table group tick) = All (λ other. same_key other key �
 Spares key (doubt.Create name table) = ⊤
 Spares key (doubt.Drop name) = ⊤
 
+-- what holds of each operation that is accepted on the way from a state through entries
+abbrev pub EachAccepted : (Doubt → Type 0) → State → List Entry → Type 0
+EachAccepted P state [] = ⊤
+EachAccepted P state (entry ∷ entries) = IfSome (accepted state.doubts entry) P × EachAccepted P (after state entry) entries
+
 -- no accepted operation changes the row of the key
-abbrev pub IsUnchanged : Key → List Entry → Type 0
-IsUnchanged key entries = AllByRecursion (λ entry. IfSome (accepted entry) (Spares key)) entries
+abbrev pub IsUnchanged : Key → State → List Entry → Type 0
+IsUnchanged key state entries = EachAccepted (Spares key) state entries
 
 -- an operation leaves a key under a table's name as it is: the row stays, and so does the name
 abbrev pub Leaves : Key → List ℕ → Doubt → Type 0
@@ -107,12 +111,13 @@ Leaves key name (doubt.Create own table) = bytes_eq (folded own) (folded name) �
 Leaves key name (doubt.Drop own) = bytes_eq (folded own) (folded name) ≡ false
 
 -- no accepted operation writes the key under the table's name
-abbrev pub IsUnwritten : Key → List ℕ → List Entry → Type 0
-IsUnwritten key name entries = AllByRecursion (λ entry. IfSome (accepted entry) (Leaves key name)) entries
+abbrev pub IsUnwritten : Key → List ℕ → State → List Entry → Type 0
+IsUnwritten key name state entries = EachAccepted (Leaves key name) state entries
 
 -- no operation is accepted
-abbrev pub IsStill : List Entry → Type 0
-IsStill entries = AllByRecursion (λ entry. accepted entry ≡ None) entries
+abbrev pub IsStill : State → List Entry → Type 0
+IsStill state [] = ⊤
+IsStill state (entry ∷ entries) = (accepted state.doubts entry ≡ None) × IsStill (after state entry) entries
 
 -- ---- what a followed query gives
 
@@ -147,7 +152,7 @@ pub record FollowedWell (opening : State) (history : List Entry) : Type 0 where
   pub whole : (before after : List Entry) (query : Query) → history ≡ before ++ (entries_of query ++ after) → IsFollowed query
       → (key : Key) (row : RowView) → row_at (at_first (after_all opening before) query).world.rows key ≡ Some row
       → key.table ≡ query.first.table → IsTrue (not (key_lt key (first_key query.first))) → IsTrue (matches query.first.options row)
-      → IsUnwritten key query.first.name (entries_of query) → Contains (rows_of query) row
+      → IsUnwritten key query.first.name (after_all opening before) (entries_of query) → Contains (rows_of query) row
 
 -- ---- where nothing is written meanwhile
 
@@ -167,10 +172,10 @@ HasAllBounds ever state (entry ∷ entries) = All (Contains ever) state.bounds �
 -- what such queries give in a history where nothing is written from the look-up of their first page to the last page
 pub record FollowedStill (opening : State) (history : List Entry) : Type 0 where
   -- all rows that the query asks for, from its beginning on, in their order
-  pub rows : (before after : List Entry) (query : Query) → history ≡ before ++ (entries_of query ++ after) → IsFollowed query → IsStill (entries_of query)
+  pub rows : (before after : List Entry) (query : Query) → history ≡ before ++ (entries_of query ++ after) → IsFollowed query → IsStill (after_all opening before) (entries_of query)
       → rows_of query ≡ filter (is_answer query.first) (at_first (after_all opening before) query).world.rows
   -- in so many pages at the most
-  pub pages : (before after : List Entry) (query : Query) (ever : List Bound) → history ≡ before ++ (entries_of query ++ after) → IsFollowed query → IsStill (entries_of query)
+  pub pages : (before after : List Entry) (query : Query) (ever : List Bound) → history ≡ before ++ (entries_of query ++ after) → IsFollowed query → IsStill (after_all opening before) (entries_of query)
       → 0 < query.first.options.top → HasAllBounds ever (at_first (after_all opening before) query) (entries_from query.first query.legs)
       → length query.legs + 1
       ≤ length (rows_of query) / query.first.options.top

@@ -1,5 +1,5 @@
 -- Which histories are those of one ordered map.
-use Rattle.std.specs.Prelude.{◌≡◌, ℕ, List, [], ◌∷◌, ◌+◌, ◌==◌, true, false, find, take, slice_get, All, AllPairs, IsTrue, Option, Some, None, is_some, option_and_then, Ok, Err, ⊤}
+use Rattle.std.specs.Prelude.{◌≡◌, ℕ, List, [], ◌∷◌, ◌+◌, ◌==◌, true, find, take, slice_get, All, AllPairs, IsTrue, Option, Some, None, is_some, option_and_then, Ok, Err, ⊤}
 use Rattle.std.specs.Result.{result_unwrap_or}
 use Rattle.tab_keys.specs.Order.{bound_lt}
 use Rattle.tab_keys.specs.declared.bounds.Bound.{Bound}
@@ -16,31 +16,25 @@ use Rattle.tab_history.specs.declared.entries.Doubt.{Doubt}
 use Rattle.tab_history.specs.declared.entries.Doubt.TheVariants as doubt
 
 -- what a history has come to: the world, the bounds in force, the table that each request's last look-up gave, the
--- last one first, and the operations of which it is open whether they stand
+-- last one first, the operations of which it is open whether they stand, each under the request that it belongs to, and
+-- the plan of which it is open whether its commit stands
 pub record State : Type 0 where
   pub world : World
   pub bounds : List Bound
   pub tables : List (ℕ × Option ℕ)
   pub doubts : List (ℕ × Doubt)
+  pub commit : Option ℕ
 
 -- the table that the last look-up of a request gave
 unfoldable pub table_for : List (ℕ × Option ℕ) → ℕ → Option ℕ
 table_for tables ask = option_and_then (λ last. last.1) (find (λ last. last.0 == ask) tables)
 
--- the operation that an entry says was accepted
-abbrev pub accepted : Entry → Option Doubt
-accepted (entry.Bounds bounds) = None
-accepted (entry.Resolve ask name table) = None
-accepted (entry.Get ask table pk rk found) = None
-accepted (entry.Page ask table options page) = None
-accepted (entry.Change ask now table group (Ok tick)) = Some (doubt.Change table group tick)
-accepted (entry.Change ask now table group (Err refusal)) = None
-accepted (entry.Create ask name (Some table)) = Some (doubt.Create name table)
-accepted (entry.Create ask name None) = None
-accepted (entry.Drop ask name true) = Some (doubt.Drop name)
-accepted (entry.Drop ask name false) = None
-accepted (entry.List ask from top names next) = None
-accepted (entry.Denied ask why) = None
+-- the operation that an entry says was accepted, where these are open before it
+abbrev pub accepted : List (ℕ × Doubt) → Entry → Option Doubt
+accepted doubts (entry.Change ask now table group (Ok tick)) = Some (doubt.Change table group tick)
+accepted doubts (entry.Create ask name (Some table)) = Some (doubt.Create name table)
+accepted doubts (entry.Drop ask name true) = Some (doubt.Drop name)
+accepted doubts _ = None
 
 -- the world after an operation
 abbrev pub acted : World → Doubt → World
@@ -56,33 +50,20 @@ world_after world (Some operation) = acted world operation
 
 abbrev pub bounds_after : List Bound → Entry → List Bound
 bounds_after bounds (entry.Bounds later) = later
-bounds_after bounds (entry.Resolve ask name table) = bounds
-bounds_after bounds (entry.Get ask table pk rk found) = bounds
-bounds_after bounds (entry.Page ask table options page) = bounds
-bounds_after bounds (entry.Change ask now table group result) = bounds
-bounds_after bounds (entry.Create ask name result) = bounds
-bounds_after bounds (entry.Drop ask name stood) = bounds
-bounds_after bounds (entry.List ask from top names next) = bounds
-bounds_after bounds (entry.Denied ask why) = bounds
+bounds_after bounds _ = bounds
 
 abbrev pub tables_after : List (ℕ × Option ℕ) → Entry → List (ℕ × Option ℕ)
 tables_after tables (entry.Resolve ask name table) = (ask, table) ∷ tables
-tables_after tables (entry.Bounds later) = tables
-tables_after tables (entry.Get ask table pk rk found) = tables
-tables_after tables (entry.Page ask table options page) = tables
-tables_after tables (entry.Change ask now table group result) = tables
-tables_after tables (entry.Create ask name result) = tables
-tables_after tables (entry.Drop ask name stood) = tables
-tables_after tables (entry.List ask from top names next) = tables
-tables_after tables (entry.Denied ask why) = tables
+tables_after tables _ = tables
 
 -- what a history has come to after one more entry
 abbrev pub after : State → Entry → State
 after state entry = record {
-  world = world_after state.world (accepted entry);
+  world = world_after state.world (accepted state.doubts entry);
   bounds = bounds_after state.bounds entry;
   tables = tables_after state.tables entry;
   doubts = state.doubts;
+  commit = state.commit;
 }
 
 abbrev pub after_all : State → List Entry → State

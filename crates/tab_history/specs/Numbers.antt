@@ -15,10 +15,11 @@ Makes number (doubt.Create name table) = table ≡ number
 Makes number (doubt.Drop name) = ⊥
 
 -- of two tables that were made the later has the greater number
-abbrev pub NumbersRise : List Entry → Type 0
-NumbersRise history =
+abbrev pub NumbersRise : State → List Entry → Type 0
+NumbersRise opening history =
     (before between later : List Entry) (first second : Entry) (number next : ℕ) → history ≡ before ++ (first ∷ (between ++ (second ∷ later)))
-    → IsSomeAnd (accepted first) (Makes number) → IsSomeAnd (accepted second) (Makes next) → number < next
+    → IsSomeAnd (accepted (after_all opening before).doubts first) (Makes number)
+    → IsSomeAnd (accepted (after_all opening (before ++ (first ∷ between))).doubts second) (Makes next) → number < next
 
 -- the operation drops the table of the name
 abbrev pub Drops : List ℕ → Doubt → Type 0
@@ -35,12 +36,12 @@ pub record IsNew (world : World) (number : ℕ) : Type 0 where
 -- a table that is made is new, and so has no row
 abbrev pub MadeNew : State → List Entry → Type 0
 MadeNew opening history =
-    (before later : List Entry) (entry : Entry) (number : ℕ) → history ≡ before ++ (entry ∷ later) → IsSomeAnd (accepted entry) (Makes number)
+    (before later : List Entry) (entry : Entry) (number : ℕ) → history ≡ before ++ (entry ∷ later) → IsSomeAnd (accepted (after_all opening before).doubts entry) (Makes number)
     → IsNew (after_all opening before).world number
 
 -- a look-up of a name after its table was dropped finds none, or one that is new since
 abbrev pub DropsHide : State → List Entry → Type 0
 DropsHide opening history =
     (before between later : List Entry) (drop : Entry) (ask : ℕ) (name again : List ℕ) (table : Option ℕ)
-    → history ≡ before ++ (drop ∷ (between ++ (entry.Resolve ask again table ∷ later))) → IsSomeAnd (accepted drop) (Drops name) → folded again ≡ folded name
+    → history ≡ before ++ (drop ∷ (between ++ (entry.Resolve ask again table ∷ later))) → IsSomeAnd (accepted (after_all opening before).doubts drop) (Drops name) → folded again ≡ folded name
     → IfSome table (IsNew (after_all opening before).world)

@@ -26,6 +26,7 @@ nothing = record {
   bounds = At 0 [] ∷ [];
   tables = [];
   doubts = [];
+  commit = None;
 }
 
 -- a row at the partition key `p`

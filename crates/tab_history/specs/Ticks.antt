@@ -18,14 +18,15 @@ Changes key tick (doubt.Create name table) = ⊥
 Changes key tick (doubt.Drop name) = ⊥
 
 -- of two accepted changes of one key the later has the greater tick
-abbrev pub TicksRise : List Entry → Type 0
-TicksRise history =
+abbrev pub TicksRise : State → List Entry → Type 0
+TicksRise opening history =
     (before between later : List Entry) (first second : Entry) (key : Key) (tick next : ℕ) → history ≡ before ++ (first ∷ (between ++ (second ∷ later)))
-    → IsSomeAnd (accepted first) (Changes key tick) → IsSomeAnd (accepted second) (Changes key next) → tick < next
+    → IsSomeAnd (accepted (after_all opening before).doubts first) (Changes key tick)
+    → IsSomeAnd (accepted (after_all opening (before ++ (first ∷ between))).doubts second) (Changes key next) → tick < next
 
 -- where a key has rows of one tick at two moments, no change of it was accepted between them, so both are one row
 abbrev pub TicksTellRows : State → List Entry → Type 0
 TicksTellRows opening history =
     (before between later : List Entry) (key : Key) (row other : RowView) → history ≡ before ++ (between ++ later)
     → row_at (after_all opening before).world.rows key ≡ Some row → row_at (after_all opening (before ++ between)).world.rows key ≡ Some other
-    → row.tick ≡ other.tick → IsUnchanged key between × (row ≡ other)
+    → row.tick ≡ other.tick → IsUnchanged key (after_all opening before) between × (row ≡ other)

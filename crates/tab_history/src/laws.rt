@@ -28,7 +28,7 @@ pub fn still_queries()
 
 /// Of two accepted changes of one key the later has the greater tick.
 pub fn ticks_rise()
-    ensures { (opening : State) (history : List Entry) → Legal opening history → TicksRise history }
+    ensures { (opening : State) (history : List Entry) → Legal opening history → TicksRise opening history }
 {}
 
 /// No tick of a row at a key comes again, so equal ETags are those of one row that stood unchanged.
@@ -38,7 +38,7 @@ pub fn ticks_tell_rows()
 
 /// Of two tables that were made the later has the greater number, so no number comes again.
 pub fn table_numbers_rise()
-    ensures { (opening : State) (history : List Entry) → Legal opening history → NumbersRise history }
+    ensures { (opening : State) (history : List Entry) → Legal opening history → NumbersRise opening history }
 {}
 
 /// A table that is made has a number that was not given before, and no row.
