@@ -11,8 +11,14 @@ use std::collections::BTreeMap;
 pub struct NamedReplies {
     alloc: Global,
     replies: BTreeMap<String, Vec<u8>>,
-    /// The reply that is being read.
-    open: Option<(String, Option<Block>)>,
+    open: Option<OpenReply>,
+}
+
+/// The reply that is being read, and its lines so far.
+#[derive(Drop)]
+struct OpenReply {
+    name: String,
+    block: Option<Block>,
 }
 
 /// Reads a file of named replies: `reply NAME`, and the lines of the reply.
@@ -51,7 +57,10 @@ impl NamedReplies {
             Some((Mark::Comment, _)) => self.close(),
             Some((Mark::Named, name)) => {
                 self.close()?;
-                self.open = Some((String::from_str(self.alloc, name)?, None));
+                self.open = Some(OpenReply {
+                    name: String::from_str(self.alloc, name)?,
+                    block: None,
+                });
                 Ok(())
             }
             _ => Err(Why::UnknownMark),
@@ -60,11 +69,13 @@ impl NamedReplies {
 
     /// Adds a line to the reply that is being read.
     fn take_reply(&mut self, line: usize, form: Form, text: &str) -> Result<(), Why> {
-        match &mut self.open {
-            None => Err(Why::UnknownReply),
-            Some((_, Some(block))) => block.push(self.alloc, form, text),
-            Some((_, block)) => {
-                *block = Some(Block::new(self.alloc, line, form, text)?);
+        let Some(open) = &mut self.open else {
+            return Err(Why::UnknownReply);
+        };
+        match &mut open.block {
+            Some(block) => block.push(self.alloc, form, text),
+            None => {
+                open.block = Some(Block::new(self.alloc, line, form, text)?);
                 Ok(())
             }
         }
@@ -72,16 +83,17 @@ impl NamedReplies {
 
     /// Keeps the reply that was read.
     fn close(&mut self) -> Result<(), Why> {
-        match self.open.take() {
+        let Some(open) = self.open.take() else {
+            return Ok(());
+        };
+        let OpenReply { name, block } = open;
+        let Some(block) = block else {
+            return Err(Why::UnknownReply);
+        };
+        let bytes = block.reply(self.alloc)?;
+        match self.replies.insert(name, bytes)? {
             None => Ok(()),
-            Some((_, None)) => Err(Why::UnknownReply),
-            Some((name, Some(block))) => {
-                let bytes = block.reply(self.alloc)?;
-                match self.replies.insert(name, bytes)? {
-                    None => Ok(()),
-                    Some(_) => Err(Why::NamedTwice),
-                }
-            }
+            Some(_) => Err(Why::NamedTwice),
         }
     }
 }

@@ -93,7 +93,7 @@ fn first_unlike<'a>(due: &'a [Due], output: &'a [u8], last_line: usize) -> Optio
 }
 
 /// How many bytes of a difference are shown.
-const MOST_SHOWN: usize = 600;
+const MOST_SHOWN: usize = 2_000;
 
 impl Unlike<'_> {
     fn texts(&self, alloc: Global, title: String) -> Result<Difference, AllocError> {
