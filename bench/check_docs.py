@@ -7,6 +7,7 @@ It looks at README.md, docs/*.md and bench/README.md, and wants:
                         module, clause, definition, lemma. `A::b` and `A.b` have to be a member of A;
   of a row of PROOFS    that its first cell names functions of the crate of its heading, and clauses of just these;
   of (File) behind words of DEFINITIONS  that specs of the crate of its heading have this file, and that it defines them;
+  of a word of DEFINITIONS in bold  that a clause on a public call uses it;
   of a row of LIMITS    that the constant has the value, and that the files named cite it;
   of the table of ARCHITECTURE  that it has just the functions that are generic over a source, a sink, a clock or a disk;
   of a link             that its page is there.
@@ -50,6 +51,8 @@ class Tree:
         self.specs = {}           # (crate, stem of a file of specs): names
         self.values = {}          # constant: values
         self.generic = {}         # file: functions over a trait of the outside
+        self.exported = {}        # crate: what it makes public
+        self.heads = []           # (crate, function or its type, words of its clauses)
         self.texts = {}           # (crate, stem of a file of specs): text
         self.paths = []
         for folder, folders, files in os.walk(TOP):
@@ -77,6 +80,8 @@ class Tree:
         generic = re.findall(r"\bfn (\w+)<[^(]*\b(?:Source|Sink|Disk|Clock)\b", text)
         if generic and parts[2] == "src" and "tests" not in path and parts[1] not in ("tab_talks", "tab_cases"):
             self.generic["/".join(parts[1:])] = set(generic)
+        if path.endswith("src/lib.rt"):
+            self.exported[parts[1]] = set(re.findall(r"\w+", " ".join(re.findall(r"pub use ([^;]+);", text))))
         found.update(p.rsplit(".", 1)[0] for p in parts[2:])
         self.names.update(found)
         self.by_crate.setdefault(parts[1], set()).update(found)
@@ -86,22 +91,26 @@ class Tree:
             self.texts[(parts[1], stem)] = text
 
     def source(self, crate, text):
-        found, owner, function = set(), None, None
+        found, owner, function, head, trait = set(), None, None, None, False
         for line in text.split("\n"):
             line = re.sub(r"//.*", "", line)
             made = re.match(r"\s*(?:pub(?:\(crate\))?\s+)?(?:struct|enum|trait|type|mod|const|static|fn)\s+(" + NAME + ")", line)
             block = re.match(r"impl(?:<[^>]*>)?\s+(?:(" + NAME + r")(?:<.*>)?\s+for\s+)?(" + NAME + ")", line)
             if block:
-                owner = block.group(2)
+                owner, trait = block.group(2), block.group(1) is not None
                 found.update(one for one in block.groups() if one)
             if made:
                 name = made.group(1)
                 found.add(name)
                 if re.match(r"(?:pub(?:\(crate\))?\s+)?(?:struct|enum|trait)\s", line):
-                    owner = name
+                    owner, trait = name, " trait " in " " + line
                 if re.search(r"\bfn\s", line):
                     owner = owner if line[0] == " " else None
                     function = name
+                    public = line.strip().startswith("pub fn") or owner is not None and trait
+                    head = (crate, owner or name, set()) if public else None
+                    if head:
+                        self.heads.append(head)
                     if owner:
                         self.members.add((owner, name))
                         function = owner + "::" + name
@@ -113,6 +122,10 @@ class Tree:
                 found.add(clause.group(1))
                 for key in (function, function.split("::")[-1]):
                     self.clauses.setdefault((crate, key), set()).add(clause.group(1))
+            if line.strip() in ("{", "{}"):
+                head = None
+            if head and not made:
+                head[2].update(re.findall(NAME, line))
             ghost = re.match(r"\s+ghost\s+(" + NAME + r")\b", line)
             field = re.match(r"\s+(?:pub(?:\(crate\))?\s+)?(" + NAME + r"):\s", line)
             variant = re.match(r"\s+([A-Z]\w*)(?:[,({]|\s\{|$)", line)
@@ -136,6 +149,9 @@ class Tree:
             if indent and owner:
                 self.members.add((owner, name))
         return found
+
+    def stands_in_clause(self, word):
+        return any(word in words and owner in self.exported.get(crate, ()) for crate, owner, words in self.heads)
 
     def has_path(self, path):
         path = path.rstrip("/")
@@ -238,6 +254,10 @@ def clauses_of(tree, crate, line, report):
 def homes_of(tree, lines, report):
     """`a`, `b` (File): that file of the crate's specs defines them."""
     crate, words, text = None, [], "\n".join(lines)
+    for number, line in enumerate(lines, 1):
+        for word in re.findall(r"\*\*`(\w+)`\*\*", line):
+            if not tree.stands_in_clause(word):
+                report(number, word + " as a word of a clause on a public call")
     for found in re.finditer(r"^#.*$|`([^`]+)`|\(([A-Z]\w+)((?:,? (?:and )?[A-Z]\w+)*)\)|([.:;](?=\s))", text, re.M):
         number = text.count("\n", 0, found.start()) + 1
         if found.group(0).startswith("#"):
