@@ -21,7 +21,7 @@ import sys
 KIT = """rt rt:run rt:ci rt:check rt:try rt:fmt rt:tidy rt:plant rt:must-fail rt:doc rt:version rt:help rt:test
 ghost ghost:use requires x x.now x.old x.new Ord must-fail specs proofs src data stdin stdout args u64::MAX
 OnOk OnErr IfOk IfErr IfSome IfNone Ok Err Some None specs.declared.TheConstants declared.MODULE.TheConstants
-Rattle.CRATE.specs.declared.TheConstants file: old: new: ensures fsync _ rattle-kit-13f""".split()
+Rattle.CRATE.specs.declared.TheConstants file: old: new: ensures fsync _ rattle-kit-13f python3""".split()
 
 # Words of the protocol, of a schedule, of a talk and of printed lines.
 PROTOCOL = """GET POST PUT MERGE PATCH DELETE post Accept Authorization Content-Length Content-Type Connection Date If-Match Prefer
@@ -29,7 +29,7 @@ x-ms-date x-ms-version x-ms-continuation-NextTableName x-ms-continuation-NextPar
 SharedKeyLite NextTableName NextPartitionKey NextRowKey PartitionKey RowKey Timestamp TableName Tables odata.metadata comp
 ACCOUNT KEY SERVERS INDEX T P R W YYYY-MM-DDTHH:MM:SS.fffffffZ
 eq ne gt ge lt le and or not guid end now call drive init load show usage: event reply read out status signed unsigned talk words
-content-type: urn:uuid: gu g A tables: filters: libsqlite3-dev SUBJECT NAME key at rows item act all crlf lf text""".split()
+content-type: urn:uuid: gu g A tables: filters: libsqlite3-dev SUBJECT NAME key at rows item act all crlf lf text shop""".split()
 
 ALLOWED = set(KIT) | set(PROTOCOL)
 
@@ -114,9 +114,10 @@ class Tree:
                     if owner:
                         self.members.add((owner, name))
                         function = owner + "::" + name
-                constant = re.search(r"\bconst\s+\w+\s*:[^=]+=\s*([\d_]+)\s*;", line)
+                constant = re.search(r"\bconst\s+\w+\s*:[^=]+=\s*([\d_]+)(?: << (\d+))?\s*;", line)
                 if constant:
-                    self.values.setdefault(name, set()).add(int(constant.group(1).replace("_", "")))
+                    value = int(constant.group(1).replace("_", "")) << int(constant.group(2) or 0)
+                    self.values.setdefault(name, set()).add(value)
             clause = re.match(r"\s*(?:ensures|requires)\s+(" + NAME + r")\s*\{", line)
             if clause and function:
                 found.add(clause.group(1))
