@@ -6,6 +6,7 @@ It looks at README.md, docs/*.md and bench/README.md, and wants:
   of any other name     that a source, a specification or a proof defines it: a function, type, field, variant, constant,
                         module, clause, definition, lemma. `A::b` and `A.b` have to be a member of A;
   of a row of PROOFS    that its first cell names functions of the crate of its heading, and clauses of just these;
+  of `a` (`b.rt`)       that this file defines it;
   of (File) behind words of DEFINITIONS  that specs of the crate of its heading have this file, and that it defines them;
   of a word of DEFINITIONS in bold  that a clause on a public call uses it;
   of a row of LIMITS    that the constant has the value, and that the files named cite it;
@@ -47,6 +48,7 @@ class Tree:
         self.names = set()
         self.members = set()      # (owner, name)
         self.by_crate = {}        # crate: names
+        self.by_file = {}         # path: names
         self.clauses = {}         # (crate, function): clauses
         self.specs = {}           # (crate, stem of a file of specs): names
         self.values = {}          # constant: values
@@ -85,6 +87,7 @@ class Tree:
         found.update(p.rsplit(".", 1)[0] for p in parts[2:])
         self.names.update(found)
         self.by_crate.setdefault(parts[1], set()).update(found)
+        self.by_file[path] = found
         if parts[2] == "specs":
             stem = parts[-1].rsplit(".", 1)[0]
             self.specs.setdefault((parts[1], stem), set()).update(found)
@@ -229,6 +232,7 @@ def missing_in(tree, page, report):
     if page.endswith("ARCHITECTURE.md"):
         for file in sorted(set(tree.generic) - listed):
             report(page, len(lines), file + " in the table, which has functions over the outside,")
+    places_of(tree, "\n".join(lines), lambda number, word: report(page, number, word))
     if page.endswith("DEFINITIONS.md"):
         homes_of(tree, lines, lambda number, word: report(page, number, word))
     return count
@@ -250,6 +254,17 @@ def clauses_of(tree, crate, line, report):
         if short not in tree.by_crate.get(crate, ()):
             report(word + ", of " + crate)
         functions.append(word)
+
+
+def places_of(tree, text, report):
+    """`a` (`b.rt`) and (`a`, `b.rt`): that file defines it."""
+    for found in re.finditer(r"`([\w:.]+)`(?:,?\s+\(|,\s+)`([\w/]+\.(?:rt|antt))`", text):
+        name, file = found.groups()
+        if is_path(name):
+            continue
+        homes = [names for path, names in tree.by_file.items() if ("/" + path).endswith("/" + file)]
+        if not any(re.split(r"::|\.", name)[-1] in names for names in homes):
+            report(text.count("\n", 0, found.start()) + 1, name + ", in " + file + ",")
 
 
 def homes_of(tree, lines, report):
