@@ -8,4 +8,4 @@ pub reply_bytes-requires : goal.reply_bytes-requires
 reply_bytes-requires c = suits_decided (held_by c.args.store.now) c.args.moment _ c.in-Ok.decided c.requires.in_form c.in-Ok.ensures.decided
 
 pub returns-in-Err-clause-text : goal.returns-in-Err-clause-text
-returns-in-Err-clause-text c = rw (c.memory_reply.ensures, c.denied.ensures) (ap (λ (text : List ℕ). reply_outcome text) (sym (denied_text c.args.request.now)))
+returns-in-Err-clause-text c = rw (c.memory_reply.ensures, c.denial.ensures) (ap (λ (text : List ℕ). reply_outcome text) (sym (denied_text c.args.request.now)))
