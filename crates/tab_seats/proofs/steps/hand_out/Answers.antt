@@ -1,0 +1,10 @@
+use Rattle.std.proofs.Common.{◌*◌, ap, arith}
+use Rattle.tab_seats.proofs.Moves.{one_word, hands_out}
+use Rattle.tab_seats.proofs.steps.hand_out.Goals as goal
+
+pub split_seat-requires : goal.split_seat-requires
+split_seat-requires g c = (
+  c.requires.table.0,
+  one_word c.args.seat.now.table_id.words c.args.table.now.shared.table_id.words (ap (λ t. t.words) c.requires.table.0) c.requires.table.1,
+  hands_out g.C.Keyed.key (1099511627776 * c.args.table.now.shared.key.passes) c.args.seat.now.id 1099511627776 c.args.seat.now.me.0 c.requires.permits,
+)
