@@ -1,6 +1,7 @@
 -- What is made of merged properties is what the merge comes to.
 use Rattle.std.proofs.Common.{◌≡◌, ℕ, ◌≢◌, List, [], ◌∷◌, ◌++◌, Bool, true, false, cond, filter, length, refl, sym, ap, subst, ◌∙◌}
 use Rattle.std.specs.Prelude.{Option, Some, None, Result, Ok, Err, MatchResult, All, AllPairs, IsFalse, nat_lt}
+use Rattle.std.specs.Option.{option_or}
 use Rattle.std.proofs.lemmas.List.Elements.{All-head, All-tail}
 use Rattle.tab_edm.specs.Entities.{EntityView, IsEntity, property_refusal, first_refusal, entity_refusal, entity_size, entity_or_refusal, made, IsRising}
 use Rattle.tab_edm.specs.Values.{is_reserved, IsInTime}
