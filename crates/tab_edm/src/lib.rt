@@ -6,7 +6,7 @@ mod moments;
 mod texts;
 mod values;
 
-pub use entities::{EdmRefused, Entity};
+pub use entities::{EdmRefused, Entity, MOST_PROPERTIES, MOST_SIZE};
 pub use moments::{etag_text, moment_text, read_etag, read_moment};
 use std::alloc::{AllocError, AllocFailed};
 pub use texts::{BytesValue, TextValue};

@@ -86,11 +86,6 @@ pub guid_none : (o : Option (List ℕ)) → ((u : List ℕ) → o ≡ Some u →
 guid_none None h = refl
 guid_none (Some u) h = absurd (h u refl)
 
--- ---- tests
-pub differs : (a b : ℕ) → (a ≡ b → ⊥) → (a == b) ≡ false
-differs a b h =
-    elim (a == b) as (λ v. (a == b) ≡ v → v ≡ false) [ true ↦ λ e. absurd (h ((Decides-eqb a b).0 e)) | false ↦ λ e. refl ] refl
-
 -- ---- offsets
 pub offset_more : (rest : List ℕ) (i whole at new c : ℕ) → i < length rest → at ≡ whole - length (encode_utf8_all (take i rest)) → c ≡ get_or rest i 0 → new ≡ at - len_utf8 c → new ≡ whole - length (encode_utf8_all (take (i + 1) rest))
 offset_more rest i whole at new c h so_far is less =

@@ -221,7 +221,7 @@ gap_for true n s o h = tt
 gap_for false n s o (inl h) = h
 gap_for false n s o (inr h) = absurd (true≢false (sym h ∙ o))
 
-abbrev negation_of : PartView → PartView
+abbrev pub negation_of : PartView → PartView
 negation_of p = record { tree = Negation p.tree; closed = p.closed; used = p.used }
 
 negated_second : (most depth used : ℕ) (k : Bool) (p : PartView) (s : List ℕ) → PartText most depth used k p s → SecondText most (suc depth) used k (negation_of p) s
