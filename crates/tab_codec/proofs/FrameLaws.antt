@@ -11,6 +11,9 @@ use Rattle.tab_codec.specs.declared.frames.Frame.TheVariants as frames
 use Rattle.tab_codec.specs.Spelling.{sized, kind, body, spelling}
 use Rattle.tab_codec.specs.Frames.{AreBytes, HasParts, IsOrderly, HasSpelling, BeginsWith}
 use Rattle.tab_codec.specs.Reading.{Read, number_at, body_at, whole_body, frame_at}
+use Rattle.tab_codec.specs.declared.reading.CodecRefused.{CodecRefused}
+use Rattle.tab_codec.specs.declared.reading.CodecRefused.TheVariants.{NoSpelling, Memory}
+use Rattle.tab_codec.specs.Answers.{Answers, Tells}
 use Rattle.tab_codec.proofs.FieldLaws.{Took, done, field32, take_bytes, drop_bytes, rest_bytes}
 use Rattle.tab_codec.proofs.FrontLaws.{chosen, neither, refused}
 use Rattle.tab_codec.proofs.BodyLaws.{IsBody, body_takes, body_again}
@@ -144,3 +147,12 @@ one_frame a b x y one two e =
     let frame : a ≡ b = ap (λ (z : Frame × ℕ). z.0) same in
     let behind : spelling b ++ x ≡ spelling b ++ y = ap (λ (f : Frame). spelling f ++ x) (sym frame) ∙ e in
     (frame, sym (drop_at (spelling b) x (length (spelling b)) refl) ∙ ap (drop (length (spelling b))) behind ∙ drop_at (spelling b) y (length (spelling b)) refl)
+
+-- bytes that are refused begin with no spelling
+none_spelled : (bytes : List ℕ) (at : ℕ) → frame_at bytes ≡ Err at → (f : Frame) (n : ℕ) → BeginsWith f n bytes → ⊥
+none_spelled bytes at e f n h = not_refused at (f, length (spelling f)) (sym e ∙ ap frame_at h.is ∙ frame_again f h.rest h.has)
+
+pub answers_tell : (bytes : List ℕ) (answer : Result (Frame × ℕ) CodecRefused) → AreBytes bytes → Answers answer (frame_at bytes) → Tells answer bytes
+answers_tell bytes (Ok x) fits h = frame_takes bytes x fits h
+answers_tell bytes (Err (NoSpelling at)) fits h = none_spelled bytes at h
+answers_tell bytes (Err Memory) fits h = tt

@@ -138,7 +138,7 @@ IsBehind before zero End = ⊥
 IsBehind before (suc n) (At table pk) = ⊥
 IsBehind before (suc n) End = n ≡ 0
 
-bound_table_goes_on : (before : Option Bound) (table : ℕ) (pk : List ℕ) → bound_rises before (At table pk) ≡ true → bound_table_rises before table ≡ true
+pub bound_table_goes_on : (before : Option Bound) (table : ℕ) (pk : List ℕ) → bound_rises before (At table pk) ≡ true → bound_table_rises before table ≡ true
 unfolding key_cmp
 bound_table_goes_on None table pk e = refl
 bound_table_goes_on (Some (At t p)) table pk e = le_is t table (first_rises (nat_cmp t table) _ e)

@@ -1,5 +1,5 @@
 -- Rows of the map and names as fields, and the orders of rows, of rows of the map, and of names.
-use Rattle.std.proofs.Common.{◌≡◌, ℕ, ◌+◌, ◌^◌, ◌<◌, ◌≤◌, Bool, true, false, cond, ltb, ◌&&◌, List, [], ◌∷◌, ◌++◌, length, Option, Some, None, Ok, refl, sym, ap, arith}
+use Rattle.std.proofs.Common.{◌≡◌, ℕ, ◌+◌, ◌^◌, ◌<◌, ◌≤◌, Bool, true, false, cond, ltb, ◌&&◌, List, [], ◌∷◌, ◌++◌, length, Option, Some, None, Result, Ok, Err, refl, sym, ap, append_assoc, arith}
 use Rattle.std.specs.Prelude.{IsTrue, IsUtf8, nat_le}
 use Rattle.std.specs.Int.{w64, to_be_bytes}
 use Rattle.std.specs.Option.{is_none, option_map}
@@ -16,15 +16,41 @@ use Rattle.tab_keys.specs.declared.bounds.Bound.TheVariants.{At, End}
 use Rattle.tab_rows.specs.Rows.{RowView}
 use Rattle.tab_codec.specs.declared.frames.RangeRow.{RangeRow}
 use Rattle.tab_codec.specs.Spelling.{sized, bound_spelling, span_spelling, range_row_spelling, name_spelling}
-use Rattle.tab_codec.specs.Frames.{IsSpan, IsKept, IsRangeRow, IsTable}
-use Rattle.tab_codec.specs.Reading.{Read, ◌>>=◌, byte_at, number_at, sized_at, allowing, bound_rises, bound_at, span_from, range_row_at, is_table_name, table_name_at, number_rises, name_at}
+use Rattle.tab_codec.specs.Frames.{IsBound, IsSpan, IsKept, IsRangeRow, IsTable}
+use Rattle.tab_codec.specs.Reading.{Read, ◌>>=◌, byte_at, number_at, sized_at, allowing, bound_rises, bound_at, table_falls, low_falls, low_bound_at, span_from, range_row_at, is_table_name, table_name_at, number_rises, name_at}
 use Rattle.tab_codec.proofs.FieldLaws.{IsField, bind_field, last_field, allowing_field, same_field, byte_field, field64, sized_field}
-use Rattle.tab_codec.proofs.KeyLaws.{IsSpanFrom, both_true, none_is, bound_field, span_from_field}
+use Rattle.tab_codec.proofs.KeyLaws.{IsSpanFrom, IsBoundAbove, bound_table_goes_on, both_true, none_is, bound_field, span_from_field}
 use Rattle.tab_codec.proofs.EntityFacts.{less_is}
 use Rattle.tab_codec.proofs.RowLaws.{IsRowAbove}
 use Rattle.tab_codec.proofs.OrderLaws.{IsOrder}
 
 -- ---- rows of the map
+
+not_lower : (a b : ℕ) → nat_le a b ≡ true → ltb b a ≡ false
+not_lower a b e = grind (arith, nat_tests)
+
+not_falls : (before : Option Bound) (table : ℕ) (pk : List ℕ) → bound_rises before (At table pk) ≡ true → table_falls before table ≡ false
+not_falls None table pk e = refl
+not_falls (Some (At t p)) table pk e = not_lower t table (bound_table_goes_on (Some (At t p)) table pk e)
+not_falls (Some End) table pk e = absurd cc
+
+low_rises : (before : Option Bound) (b : Bound) (rest : List ℕ) → IsBound b → bound_rises before b ≡ true → low_falls before (bound_spelling b ++ rest) ≡ false
+unfolding low_falls bound_spelling
+low_rises before (At table pk) rest h e = rw (append_assoc (to_be_bytes w64 table) (sized pk) rest, field64.again table (sized pk ++ rest) h.0) (not_falls before table pk e)
+low_rises before End rest h e = refl
+
+goes_by : {A : Type 0} (b : Bool) (left : ℕ) (read : Read A) (x : A × List ℕ) → cond b (Err left) read ≡ Ok x → read ≡ Ok x
+goes_by true left read x e = absurd cc
+goes_by false left read x e = e
+
+pub low_bound_field : (before : Option Bound) → IsField (low_bound_at before) bound_spelling (λ b. IsBoundAbove None b × (bound_rises before b ≡ true))
+unfolding low_bound_at
+low_bound_field before =
+    let rising = allowing_field (bound_rises before) (bound_field None) in
+    record {
+      takes = λ bytes x fits e. rising.takes bytes x fits (goes_by (low_falls before bytes) (length bytes) (allowing (bound_rises before) (bound_at None) bytes) x e);
+      again = λ b rest h. rw (low_rises before b rest h.0.bound h.1) (rising.again b rest h);
+    }
 
 -- a row of the map whose low bound stands above that of the row before, where there is one
 pub record IsRangeRowAbove (before : Option RangeRow) (r : RangeRow) : Type 0 where
@@ -36,7 +62,7 @@ unfolding range_row_at range_row_spelling span_spelling
 range_row_field before = same_field
     (bind_field (λ (r : RangeRow). r.range) field64
     (λ range _. bind_field (λ (r : RangeRow). r.server) byte_field
-    (λ server _. bind_field (λ (r : RangeRow). r.span.lo) (allowing_field (bound_rises (option_map (λ (b : RangeRow). b.span.lo) before)) (bound_field None))
+    (λ server _. bind_field (λ (r : RangeRow). r.span.lo) (low_bound_field (option_map (λ (b : RangeRow). b.span.lo) before))
     (λ lo _. last_field (λ span. record { range = range; server = server; span = span }) (λ (r : RangeRow). r.span) (λ _ _. refl) (span_from_field lo))
     (λ lo r h. h.0.from))
     (λ server r h. sym (ap (λ (q : RangeRow). q.server) h.1.1)))

@@ -258,13 +258,32 @@ change_at bytes = do
   which ← case_at 0 1 bytes
   change_of which.0 which.1
 
--- a row of the map whose low bound stands above that of the row before, where there is one; where it does not, the
--- first field of the bound shows it
+-- the table of a low bound stands below that of the bound before, so that no later field can mend the order
+abbrev pub table_falls : Option Bound → ℕ → Bool
+table_falls None table = false
+table_falls (Some (At before pk)) table = nat_lt table before
+table_falls (Some End) table = true
+
+abbrev pub read_falls : Option Bound → Read ℕ → Bool
+read_falls before (Ok table) = table_falls before table.0
+read_falls before (Err left) = false
+
+unfoldable pub low_falls : Option Bound → List ℕ → Bool
+low_falls before [] = false
+low_falls before (zero ∷ rest) = read_falls before (number_at w64 rest)
+low_falls before (suc which ∷ rest) = false
+
+-- a low bound above the one before, where there is one; where it is not, its first field shows it, as soon as the table
+-- or the whole bound tells
+unfoldable pub low_bound_at : Option Bound → List ℕ → Read Bound
+low_bound_at before bytes = if low_falls before bytes then Err (length bytes) else allowing (bound_rises before) (bound_at None) bytes
+
+-- a row of the map whose low bound stands above that of the row before, where there is one
 unfoldable pub range_row_at : Option RangeRow → List ℕ → Read RangeRow
 range_row_at before bytes = do
   range ← number_at w64 bytes
   server ← byte_at range.1
-  lo ← allowing (bound_rises (option_map (λ (row : RangeRow). row.span.lo) before)) (bound_at None) server.1
+  lo ← low_bound_at (option_map (λ (row : RangeRow). row.span.lo) before) server.1
   span ← span_from lo.0 lo.1
   Ok (record { range = range.0; server = server.0; span = span.0 }, span.1)
 

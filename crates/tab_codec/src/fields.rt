@@ -1,6 +1,6 @@
 //! The fields of a body: numbers, bytes and texts.
 
-ghost use Rattle.std.specs.Prelude.{◌≡◌, ◌≤◌, IfOk, nat_le};
+ghost use Rattle.std.specs.Prelude.{◌≡◌, ◌≤◌, IfOk, MatchOption, Ok, Err, drop, length, nat_le};
 ghost use Rattle.std.specs.Int.{w16, w32, w64};
 ghost use Rattle.std.specs.Str.{is_utf8};
 ghost use Rattle.tab_codec.specs.Reading.{Gives, byte_at, number_at, bytes_at, sized_at, allowing, case_at, key_text_at, table_name_at};
@@ -70,6 +70,21 @@ pub fn read_u64(bytes: &[u8]) -> Result<(u64, &[u8]), Stop>
         front[0], front[1], front[2], front[3], front[4], front[5], front[6], front[7],
     ]);
     Ok((number, rest))
+}
+
+/// The number that the bytes begin with, where they are long enough.
+#[tactic(auto, unfolding(crate::specs::Reading::number_at))]
+pub fn first_u64(bytes: &[u8]) -> Option<u64>
+    ensures { MatchOption result
+        (number_at w64 bytes.now ≡ Err (length bytes.now))
+        (λ number. number_at w64 bytes.now ≡ Ok (number, drop 8 bytes.now)) }
+{
+    if bytes.len() < 8 {
+        return None;
+    }
+    Some(u64::from_be_bytes([
+        bytes[0], bytes[1], bytes[2], bytes[3], bytes[4], bytes[5], bytes[6], bytes[7],
+    ]))
 }
 
 /// The tick of a moment.

@@ -4,11 +4,11 @@ ghost use Rattle.std.specs.Prelude.{◌≡◌, List, ℕ, None};
 ghost use Rattle.std.specs.Option.{option_map, option_copied};
 ghost use Rattle.std.specs.Int.{w64};
 ghost use Rattle.tab_codec.specs.declared.frames.RangeRow.{RangeRow};
-ghost use Rattle.tab_codec.specs.Reading.{Gives, allowing, bound_rises, bound_at, number_at, number_rises, items_at, last_read, row_at, change_of, change_at, range_row_at, name_at};
+ghost use Rattle.tab_codec.specs.Reading.{Gives, allowing, bound_rises, bound_at, low_falls, low_bound_at, number_at, number_rises, items_at, last_read, row_at, change_of, change_at, range_row_at, name_at};
 
 use crate::RangeRow;
 use crate::entities::read_row;
-use crate::fields::{read_byte, read_case, read_table_name, read_u64};
+use crate::fields::{first_u64, read_byte, read_case, read_table_name, read_u64};
 use crate::keys::{read_bound, read_key, read_span_from};
 use crate::stops::Stop;
 use std::alloc::Global;
@@ -146,8 +146,40 @@ fn read_range_row<'a>(
     Ok((row, rest))
 }
 
-#[tactic(auto, unfolding(crate::specs::Reading::allowing))]
+/// The low bound of a row of a map, above that of the row before.
+#[tactic(auto, unfolding(crate::specs::Reading::low_bound_at))]
 fn read_low_bound<'a>(
+    alloc: Global,
+    before: Option<&RangeRow>,
+    bytes: &'a [u8],
+) -> Result<(Bound, &'a [u8]), Stop>
+    ensures { Gives (λ x. (x.0, x.1.now)) result (low_bound_at (option_map (λ (row : RangeRow). row.span.lo) (option_copied before.entry)) bytes.now) }
+{
+    if low_falls(before, bytes) {
+        return Err(Stop::Broken(bytes.len()));
+    }
+    read_rising_bound(alloc, before, bytes)
+}
+
+/// Whether the table of a low bound tells that it does not stand above that of the row before.
+#[tactic(auto, unfolding(crate::specs::Reading::low_falls))]
+fn low_falls(before: Option<&RangeRow>, bytes: &[u8]) -> bool
+    ensures { result ≡ low_falls (option_map (λ (row : RangeRow). row.span.lo) (option_copied before.entry)) bytes.now }
+{
+    let [0, rest @ ..] = bytes else {
+        return false;
+    };
+    match (before, first_u64(rest)) {
+        (Some(row), Some(table)) => match row.span.lo() {
+            Bound::At(before, _) => table < *before,
+            Bound::End => true,
+        },
+        _ => false,
+    }
+}
+
+#[tactic(auto, unfolding(crate::specs::Reading::allowing))]
+fn read_rising_bound<'a>(
     alloc: Global,
     before: Option<&RangeRow>,
     bytes: &'a [u8],

@@ -13,6 +13,8 @@ mod prepared;
 mod reading;
 mod sizes;
 mod stops;
+#[cfg(test)]
+mod tests;
 mod writing;
 
 pub use frames::{Frame, RangeRow};

@@ -2,7 +2,7 @@
 
 ghost use Rattle.std.specs.Prelude.{◌≡◌, ◌≤◌, length};
 ghost use Rattle.tab_codec.specs.Reading.{body_at, whole_body, frame_at};
-ghost use Rattle.tab_codec.specs.Answers.{Answers};
+ghost use Rattle.tab_codec.specs.Answers.{Answers, Tells};
 
 use crate::Frame;
 use crate::bodies::read_body;
@@ -26,9 +26,16 @@ pub enum CodecRefused {
 }
 
 /// The frame whose spelling the bytes begin with, and how long that is.
-#[tactic(auto, unfolding(crate::specs::Reading::frame_at))]
 pub fn read_frame(alloc: Global, bytes: &[u8]) -> Result<(Frame, usize), CodecRefused>
     ensures exact { Answers result (frame_at bytes.now) }
+    ensures spelled { Tells result bytes.now }
+{
+    read_front(alloc, bytes)
+}
+
+#[tactic(auto, unfolding(crate::specs::Reading::frame_at))]
+fn read_front(alloc: Global, bytes: &[u8]) -> Result<(Frame, usize), CodecRefused>
+    ensures { Answers result (frame_at bytes.now) }
 {
     let [kind @ 1..=9, rest @ ..] = bytes else {
         return Err(CodecRefused::NoSpelling { at: 0 });
