@@ -1,6 +1,6 @@
 -- The bodies of frames: what is read is spelled so, and what has a spelling is read.
-use Rattle.std.proofs.Common.{◌≡◌, ℕ, zero, suc, ◌+◌, ◌^◌, ◌<◌, ◌≤◌, Bool, true, false, cond, ltb, ◌&&◌, List, [], ◌∷◌, ◌++◌, length, Option, Some, None, Result, Ok, Err, refl, sym, ap, subst, ◌∙◌, arith}
-use Rattle.std.specs.Prelude.{IsUtf8, nat_le, AllPairs}
+use Rattle.std.proofs.Common.{◌≡◌, ℕ, zero, suc, ◌^◌, ◌<◌, ◌≤◌, true, ◌&&◌, List, [], ◌∷◌, ◌++◌, length, Option, Some, None, Ok, refl, sym, ap, subst, ◌∙◌, arith}
+use Rattle.std.specs.Prelude.{IsUtf8, nat_le}
 use Rattle.std.specs.List.{flat_map, AllByRecursion}
 use Rattle.std.specs.Int.{w16, w32, w64, to_be_bytes}
 use Rattle.std.proofs.lemmas.Bool.Decides.{nat_tests}
@@ -12,8 +12,8 @@ use Rattle.tab_codec.specs.declared.frames.RangeRow.{RangeRow}
 use Rattle.tab_codec.specs.declared.frames.Frame.{Frame}
 use Rattle.tab_codec.specs.declared.frames.Frame.TheVariants as frames
 use Rattle.tab_codec.specs.Spelling.{sized, span_spelling, row_spelling, change_spelling, range_row_spelling, name_spelling, kind, body}
-use Rattle.tab_codec.specs.Frames.{AreBytes, IsSpan, IsChange, IsRangeRow, IsTable, HasParts, IsOrderly}
-use Rattle.tab_codec.specs.Reading.{Read, ◌>>=◌, number_at, byte_at, allowing, items_at, last_read, row_at, change_at, range_row_at, name_at, begin_at, rows_at, whole_at, changes_at, map_at, commit_at, names_at, create_at, drop_at, body_at}
+use Rattle.tab_codec.specs.Frames.{AreBytes, IsSpan, IsChange, IsRangeRow, HasParts, IsOrderly}
+use Rattle.tab_codec.specs.Reading.{Read, number_at, items_at, last_read, change_at, range_row_at, begin_at, rows_at, whole_at, changes_at, map_at, commit_at, names_at, create_at, drop_at, body_at}
 use Rattle.tab_codec.proofs.FieldLaws.{Took, IsField, IsVariant, FitsAll, bind_part, last_part, allowing_field, items_field, byte_field, field16, field32, field64}
 use Rattle.tab_codec.proofs.KeyLaws.{span_field}
 use Rattle.tab_codec.proofs.OrderLaws.{owns, pairs, next_all}

@@ -1,5 +1,5 @@
 -- What properties are together that were read one after another.
-use Rattle.std.proofs.Common.{◌≡◌, ◌≢◌, ℕ, zero, suc, ◌+◌, ◌*◌, ◌^◌, ◌<◌, ◌≤◌, Bool, true, false, cond, ltb, ◌&&◌, List, [], ◌∷◌, ◌++◌, length, Option, Some, None, Result, Ok, Err, refl, sym, ap, subst, ◌∙◌, arith}
+use Rattle.std.proofs.Common.{◌≡◌, ◌≢◌, ℕ, ◌+◌, ◌*◌, ◌≤◌, Bool, true, false, cond, ltb, ◌&&◌, List, [], ◌∷◌, length, Option, Some, None, Result, Ok, refl, sym, ap, subst, arith}
 use Rattle.std.specs.Prelude.{IsTrue, IsFalse, not, nat_le, All, AllPairs, sum_by}
 use Rattle.std.specs.List.{AllByRecursion}
 use Rattle.std.specs.Ordering.{is_lt, nat_cmp}
@@ -22,9 +22,8 @@ use Rattle.tab_edm.specs.declared.TheConstants.{GREATEST}
 use Rattle.tab_edm.specs.declared.entities.EdmRefused.{EdmRefused}
 use Rattle.std.specs.Int.{w16}
 use Rattle.tab_codec.specs.Frames.{AreBytes}
-use Rattle.tab_codec.specs.Spelling.{property_spelling}
-use Rattle.tab_codec.specs.Reading.{Read, ◌>>=◌, Counted, allowing, number_at, name_rises, is_property_name, property_at, count_on, items_at, entity_at}
-use Rattle.tab_codec.proofs.FieldLaws.{IsField, Took, FitsAll, items_field, allowing_field, field16}
+use Rattle.tab_codec.specs.Reading.{Counted, allowing, number_at, name_rises, property_at, count_on, items_at, entity_at}
+use Rattle.tab_codec.proofs.FieldLaws.{FitsAll, items_field, allowing_field, field16}
 use Rattle.tab_codec.proofs.KeyLaws.{both_true}
 use Rattle.tab_codec.proofs.EntityLaws.{IsNext, IsTyped, property_field}
 

@@ -1,20 +1,20 @@
 -- Values and properties as fields.
-use Rattle.std.proofs.Common.{◌≡◌, ℕ, zero, suc, ◌+◌, ◌*◌, ◌^◌, ◌<◌, ◌≤◌, Bool, true, false, cond, ◌&&◌, List, [], ◌∷◌, ◌++◌, length, Option, Some, None, Ok, refl, sym, ap, subst, ◌∙◌, arith, lit<}
-use Rattle.std.specs.Prelude.{ℤ, pos, FitsSigned, nat_le, ◌==◌}
-use Rattle.std.specs.Int.{w16, w32, w64, to_be_bytes, cast_signed, cast_unsigned}
+use Rattle.std.proofs.Common.{◌≡◌, ℕ, zero, suc, ◌+◌, ◌*◌, ◌^◌, ◌<◌, Bool, true, false, cond, ◌&&◌, List, [], ◌∷◌, length, refl, sym, ap, subst, arith, lit<}
+use Rattle.std.specs.Prelude.{ℤ, FitsSigned, nat_le, ◌==◌}
+use Rattle.std.specs.Int.{w32, w64, to_be_bytes, cast_signed, cast_unsigned}
 use Rattle.std.specs.Str.{is_utf8}
 use Rattle.std.proofs.lemmas.Bool.Decides.{nat_tests}
 use Rattle.std.proofs.lemmas.Int.{ints, to_z-of_z, of_z-to_z}
 use Rattle.tab_edm.specs.Texts.{unit_count}
-use Rattle.tab_edm.specs.Values.{is_small, value_size, property_size}
+use Rattle.tab_edm.specs.Values.{is_small, value_size}
 use Rattle.tab_edm.specs.declared.values.Value.{Value}
 use Rattle.tab_edm.specs.declared.values.Value.TheVariants.{Text, Flag, Int32, Int64, Moment, Guid, Bytes}
 use Rattle.tab_edm.specs.declared.values.Property.{Property}
 use Rattle.tab_edm.specs.declared.TheConstants.{GREATEST}
 use Rattle.tab_codec.specs.Spelling.{sized, value_spelling, property_spelling}
-use Rattle.tab_codec.specs.Reading.{Read, ◌>>=◌, byte_at, number_at, bytes_at, sized_at, allowing, case_at, Counted, name_rises, is_property_name, value_of, value_within, value_at, property_name_at, property_at, count_on}
-use Rattle.tab_codec.proofs.FieldLaws.{IsField, bind_field, last_field, allowing_field, same_field, byte_field, field32, field64, bytes_field, sized_field}
-use Rattle.tab_codec.proofs.KeyLaws.{both_true, case_field}
+use Rattle.tab_codec.specs.Reading.{Counted, name_rises, is_property_name, value_of, value_within, value_at, property_name_at, property_at}
+use Rattle.tab_codec.proofs.FieldLaws.{IsField, bind_field, last_field, allowing_field, same_field, field32, field64, bytes_field, sized_field}
+use Rattle.tab_codec.proofs.KeyLaws.{case_field}
 
 -- ---- the parts of a value
 

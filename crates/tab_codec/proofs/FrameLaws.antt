@@ -1,22 +1,22 @@
 -- What is read of any bytes is a frame that has a spelling, and each spelling is read.
-use Rattle.std.proofs.Common.{inl, inr, ◌≡◌, ℕ, zero, suc, ◌+◌, ◌-◌, ◌^◌, ◌<◌, ◌≤◌, Bool, true, false, cond, ltb, ◌&&◌, ◌||◌, List, [], ◌∷◌, ◌++◌, length, take, drop, Result, Ok, Err, refl, sym, ap, subst, ◌∙◌, append_assoc, arith}
-use Rattle.std.specs.Prelude.{nat_le, nat_lt, ◌==◌}
+use Rattle.std.proofs.Common.{inl, inr, ◌≡◌, ℕ, suc, ◌+◌, ◌-◌, ◌≤◌, Bool, true, false, cond, ltb, ◌&&◌, ◌||◌, List, [], ◌∷◌, ◌++◌, length, take, drop, Result, Ok, Err, refl, sym, ap, subst, ◌∙◌, append_assoc, arith}
+use Rattle.std.specs.Prelude.{nat_le, ◌==◌}
 use Rattle.std.specs.Int.{w32, to_be_bytes, from_be_bytes}
 use Rattle.std.proofs.lemmas.Bool.{ltb-false, le-ltb}
 use Rattle.std.proofs.lemmas.Bool.Decides.{nat_tests}
-use Rattle.std.proofs.lemmas.List.{append-nil, take_at, drop_at, take-append-drop, length-append, length-take}
+use Rattle.std.proofs.lemmas.List.{append-nil, take_at, drop_at, take-append-drop, length-append}
 use Rattle.std.proofs.lemmas.Nat.{from_be_bytes-to_be_bytes_4}
 use Rattle.tab_codec.specs.declared.frames.Frame.{Frame}
 use Rattle.tab_codec.specs.declared.frames.Frame.TheVariants as frames
 use Rattle.tab_codec.specs.Spelling.{sized, kind, body, spelling}
-use Rattle.tab_codec.specs.Frames.{AreBytes, HasParts, IsOrderly, HasSpelling, BeginsWith}
+use Rattle.tab_codec.specs.Frames.{AreBytes, HasSpelling, BeginsWith}
 use Rattle.tab_codec.specs.Reading.{Read, number_at, body_at, whole_body, frame_at}
 use Rattle.tab_codec.specs.declared.reading.CodecRefused.{CodecRefused}
 use Rattle.tab_codec.specs.declared.reading.CodecRefused.TheVariants.{NoSpelling, Memory}
 use Rattle.tab_codec.specs.Answers.{Answers, Tells}
-use Rattle.tab_codec.proofs.FieldLaws.{Took, done, field32, take_bytes, drop_bytes, rest_bytes}
-use Rattle.tab_codec.proofs.FrontLaws.{chosen, neither, refused}
-use Rattle.tab_codec.proofs.BodyLaws.{IsBody, body_takes, body_again}
+use Rattle.tab_codec.proofs.FieldLaws.{done, field32, take_bytes, rest_bytes}
+use Rattle.tab_codec.proofs.FrontLaws.{chosen, refused}
+use Rattle.tab_codec.proofs.BodyLaws.{body_takes, body_again}
 
 abbrev read_so : Frame × ℕ → Result (Frame × ℕ) ℕ
 read_so x = Ok x

@@ -1,6 +1,6 @@
 -- Keys, bounds and spans as fields.
-use Rattle.std.proofs.Common.{◌≡◌, ℕ, zero, suc, ◌+◌, ◌*◌, ◌^◌, ◌<◌, ◌≤◌, Bool, true, false, cond, ltb, ◌&&◌, List, [], ◌∷◌, ◌++◌, length, Option, Some, None, Ok, refl, sym, ap, subst, ◌∙◌, arith, lit<, length-append}
-use Rattle.std.specs.Prelude.{IsTrue, IsUtf8, nat_le}
+use Rattle.std.proofs.Common.{◌≡◌, ℕ, zero, suc, ◌*◌, ◌^◌, ◌<◌, ◌≤◌, Bool, true, false, cond, ltb, ◌&&◌, List, [], ◌∷◌, ◌++◌, length, Option, Some, None, Ok, refl, sym, ap, subst, arith, lit<, length-append}
+use Rattle.std.specs.Prelude.{IsUtf8, nat_le}
 use Rattle.std.specs.List.{flat_map}
 use Rattle.std.specs.Int.{w64, to_be_bytes}
 use Rattle.std.specs.Option.{is_none}
@@ -11,18 +11,18 @@ use Rattle.std.specs.Str.{is_utf8, chars}
 use Rattle.std.specs.Char.{len_utf8}
 use Rattle.std.specs.Char.Escape.{encode_utf16}
 use Rattle.std.proofs.Math.Utf8.{encodes, encode}
-use Rattle.std.proofs.lemmas.Bool.{ltb-false, ltb-true}
+use Rattle.std.proofs.lemmas.Bool.{ltb-false}
 use Rattle.std.proofs.lemmas.Bool.Decides.{nat_tests}
 use Rattle.std.proofs.lemmas.Str.{IsUtf8-from_is_utf8, is_utf8-from_IsUtf8, encodes-chars, length-encode}
 use Rattle.tab_keys.specs.KeyTexts.{units_of, key_refusal, IsKeyText}
-use Rattle.tab_keys.specs.Order.{text_cmp, key_cmp, key_lt, head_key, bound_lt}
+use Rattle.tab_keys.specs.Order.{text_cmp, key_cmp, bound_lt}
 use Rattle.tab_keys.specs.Spans.{Interval}
 use Rattle.tab_keys.specs.declared.keys.Key.{Key}
 use Rattle.tab_keys.specs.declared.bounds.Bound.{Bound}
 use Rattle.tab_keys.specs.declared.bounds.Bound.TheVariants.{At, End}
 use Rattle.tab_codec.specs.Spelling.{sized, key_spelling, bound_spelling, span_spelling}
 use Rattle.tab_codec.specs.Frames.{AreBytes, IsKey, IsBound, IsSpan}
-use Rattle.tab_codec.specs.Reading.{Read, ◌>>=◌, byte_at, number_at, sized_at, allowing, case_at, is_key_text, key_text_at, table_rises, partition_rises, key_rises, row_key_at, key_at, may_rise, bound_table_rises, bound_rises, partition_at, bound_of, bound_at, span_from, span_at}
+use Rattle.tab_codec.specs.Reading.{case_at, is_key_text, key_text_at, table_rises, partition_rises, key_rises, row_key_at, key_at, may_rise, bound_table_rises, bound_rises, partition_at, bound_of, bound_at, span_from, span_at}
 use Rattle.tab_codec.proofs.FieldLaws.{Took, IsField, done, ok_is, bind_field, last_field, allowing_field, same_field, byte_field, field64, sized_field}
 
 pub both_true : (a b : Bool) → (a && b) ≡ true → (a ≡ true) × (b ≡ true)

@@ -1,5 +1,5 @@
 -- Rows of the map and names as fields, and the orders of rows, of rows of the map, and of names.
-use Rattle.std.proofs.Common.{◌≡◌, ℕ, ◌+◌, ◌^◌, ◌<◌, ◌≤◌, Bool, true, false, cond, ltb, ◌&&◌, List, [], ◌∷◌, ◌++◌, length, Option, Some, None, Result, Ok, Err, refl, sym, ap, append_assoc, arith}
+use Rattle.std.proofs.Common.{◌≡◌, ℕ, ◌<◌, ◌≤◌, Bool, true, false, cond, ltb, List, ◌++◌, length, Option, Some, None, Ok, Err, refl, sym, ap, append_assoc, arith}
 use Rattle.std.specs.Prelude.{IsTrue, IsUtf8, nat_le}
 use Rattle.std.specs.Int.{w64, to_be_bytes}
 use Rattle.std.specs.Option.{is_none, option_map}
@@ -16,10 +16,10 @@ use Rattle.tab_keys.specs.declared.bounds.Bound.TheVariants.{At, End}
 use Rattle.tab_rows.specs.Rows.{RowView}
 use Rattle.tab_codec.specs.declared.frames.RangeRow.{RangeRow}
 use Rattle.tab_codec.specs.Spelling.{sized, bound_spelling, span_spelling, range_row_spelling, name_spelling}
-use Rattle.tab_codec.specs.Frames.{IsBound, IsSpan, IsKept, IsRangeRow, IsTable}
-use Rattle.tab_codec.specs.Reading.{Read, ◌>>=◌, byte_at, number_at, sized_at, allowing, bound_rises, bound_at, table_falls, low_falls, low_bound_at, span_from, range_row_at, is_table_name, table_name_at, number_rises, name_at}
+use Rattle.tab_codec.specs.Frames.{IsBound, IsKept, IsRangeRow, IsTable}
+use Rattle.tab_codec.specs.Reading.{Read, allowing, bound_rises, bound_at, table_falls, low_falls, low_bound_at, range_row_at, is_table_name, table_name_at, number_rises, name_at}
 use Rattle.tab_codec.proofs.FieldLaws.{IsField, bind_field, last_field, allowing_field, same_field, byte_field, field64, sized_field}
-use Rattle.tab_codec.proofs.KeyLaws.{IsSpanFrom, IsBoundAbove, bound_table_goes_on, both_true, none_is, bound_field, span_from_field}
+use Rattle.tab_codec.proofs.KeyLaws.{IsBoundAbove, bound_table_goes_on, both_true, none_is, bound_field, span_from_field}
 use Rattle.tab_codec.proofs.EntityFacts.{less_is}
 use Rattle.tab_codec.proofs.RowLaws.{IsRowAbove}
 use Rattle.tab_codec.proofs.OrderLaws.{IsOrder}

@@ -1,37 +1,32 @@
 -- Entities, rows and changes as fields.
-use Rattle.std.proofs.Common.{◌≡◌, ℕ, zero, suc, ◌+◌, ◌*◌, ◌^◌, ◌<◌, ◌≤◌, Bool, true, false, cond, ltb, ◌&&◌, List, [], ◌∷◌, ◌++◌, length, Option, Some, None, Ok, refl, sym, ap, subst, ◌∙◌, arith, lit<}
-use Rattle.std.specs.Prelude.{IsTrue, IsFalse, IsUtf8, not, nat_le, All, AllPairs, sum_by}
+use Rattle.std.proofs.Common.{◌≡◌, ℕ, zero, suc, ◌+◌, ◌*◌, ◌^◌, ◌<◌, ◌≤◌, Bool, true, false, cond, ltb, ◌&&◌, List, [], ◌∷◌, length, Option, Some, None, refl, sym, ap, subst, arith, lit<}
+use Rattle.std.specs.Prelude.{IsFalse, IsUtf8, nat_le, sum_by}
 use Rattle.std.specs.List.{AllByRecursion}
-use Rattle.std.specs.Int.{w16, w64, to_be_bytes}
 use Rattle.std.specs.Option.{option_map, option_or}
-use Rattle.std.specs.Str.{is_utf8, chars}
-use Rattle.std.proofs.lemmas.Bool.{le-ltb}
 use Rattle.std.proofs.lemmas.Bool.Decides.{nat_tests}
 use Rattle.std.proofs.lemmas.List.Elements.{recursion_from_All}
 use Rattle.std.proofs.lemmas.List.Sums.{sum_by-cons}
 use Rattle.std.proofs.lemmas.Str.{IsUtf8-from_is_utf8, is_utf8-from_IsUtf8}
-use Rattle.std.specs.Char.Escape.{encode_utf16}
-use Rattle.std.specs.List.{flat_map}
 use Rattle.tab_keys.specs.KeyTexts.{units_of}
 use Rattle.tab_keys.specs.declared.keys.Key.{Key}
 use Rattle.tab_edm.specs.Texts.{unit_count, char_count}
 use Rattle.tab_edm.specs.Values.{is_valid_name, is_reserved, is_small, value_size, property_size, IsInTime}
-use Rattle.tab_edm.specs.Entities.{EntityView, IsEntity, IsRising, name_lt, property_refusal, first_refusal, entity_size, entity_refusal}
+use Rattle.tab_edm.specs.Entities.{EntityView, IsEntity, IsRising, property_refusal, first_refusal, entity_size, entity_refusal}
 use Rattle.tab_edm.specs.declared.values.Value.{Value}
 use Rattle.tab_edm.specs.declared.values.Value.TheVariants.{Text, Flag, Int32, Int64, Moment, Guid, Bytes}
 use Rattle.tab_edm.specs.declared.values.Property.{Property}
 use Rattle.tab_edm.specs.declared.TheConstants.{GREATEST}
-use Rattle.tab_rows.specs.Rows.{RowView, IsRow}
+use Rattle.tab_rows.specs.Rows.{RowView}
 use Rattle.tab_rows.specs.declared.changes.Change.{Change}
 use Rattle.tab_rows.specs.declared.changes.Change.TheVariants.{Put, Take}
-use Rattle.tab_codec.specs.Spelling.{property_spelling, properties_spelling, key_spelling, row_spelling, change_spelling}
+use Rattle.tab_codec.specs.Spelling.{properties_spelling, key_spelling, row_spelling, change_spelling}
 use Rattle.tab_codec.specs.Frames.{IsKey, IsValue, IsProperty, IsKept, IsChange}
-use Rattle.tab_codec.specs.Reading.{Read, ◌>>=◌, Counted, number_at, allowing, case_at, name_rises, is_property_name, property_at, count_on, items_at, entity_at, key_rises, key_at, row_at, change_of, change_at}
+use Rattle.tab_codec.specs.Reading.{Counted, name_rises, is_property_name, count_on, entity_at, key_rises, row_at, change_of, change_at}
 use Rattle.tab_codec.proofs.FieldLaws.{IsField, FitsAll, bind_field, last_field, allowing_field, same_field, variant_field, items_field, field16, field64}
 use Rattle.tab_codec.proofs.KeyLaws.{IsKeyAbove, key_field, case_field, few_units, bytes_at_most}
 use Rattle.tab_codec.proofs.EntityLaws.{IsTyped, IsWithin, IsNext, property_field}
 use Rattle.tab_codec.proofs.TextLaws.{short_name}
-use Rattle.tab_codec.proofs.EntityFacts.{MakeEntity, make_entity, each}
+use Rattle.tab_codec.proofs.EntityFacts.{make_entity, each}
 
 -- ---- what the types keep of properties, from what was read and back
 

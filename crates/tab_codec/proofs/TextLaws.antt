@@ -1,8 +1,7 @@
 -- Texts: what is UTF-8, and what a field gives that is allowed or not.
-use Rattle.std.proofs.Common.{◌≡◌, ℕ, ◌+◌, ◌*◌, ◌≤◌, Bool, true, false, cond, ◌&&◌, List, [], ◌∷◌, length, Option, None, Result, Ok, Err, refl, sym, ap, subst, length-append, arith}
+use Rattle.std.proofs.Common.{◌≡◌, ℕ, ◌*◌, ◌≤◌, Bool, true, false, ◌&&◌, List, [], ◌∷◌, length, None, Ok, Err, refl, subst, length-append, arith}
 use Rattle.std.specs.Prelude.{IsUtf8, nat_le, not}
 use Rattle.std.specs.List.{flat_map}
-use Rattle.std.specs.Option.{is_none, option_map}
 use Rattle.std.specs.Str.{is_utf8, chars}
 use Rattle.std.specs.Char.Escape.{encode_utf16}
 use Rattle.std.proofs.lemmas.Bool.Decides.{nat_tests}
@@ -11,7 +10,7 @@ use Rattle.tab_keys.specs.KeyTexts.{key_refusal}
 use Rattle.tab_keys.specs.TableNames.{name_refusal}
 use Rattle.tab_edm.specs.Texts.{unit_count, char_count}
 use Rattle.tab_edm.specs.Values.{is_valid_name, is_reserved}
-use Rattle.tab_codec.specs.Reading.{Read, ◌>>=◌, allowing, is_key_text, is_table_name, is_property_name}
+use Rattle.tab_codec.specs.Reading.{Read, allowing, is_key_text, is_table_name, is_property_name}
 use Rattle.tab_codec.proofs.KeyLaws.{both_true}
 
 pub allowed_gives : {A : Type 0} (allowed : A → Bool) (field : List ℕ → Read A) (bytes : List ℕ) (x : A) (rest : List ℕ) → field bytes ≡ Ok (x, rest) → allowed x ≡ true → allowing allowed field bytes ≡ Ok (x, rest)

@@ -28,6 +28,7 @@ fn each_kind_is_read(rt: HostRuntime) -> Result<(), Fail> {
 }
 
 #[test]
+#[tactic(auto, unfolding(crate::specs::Spelling::body))]
 fn a_frame_is_made_ready(rt: HostRuntime) -> Result<(), Fail> {
     let frame = Frame::Drop { table: 9 };
     let prepared = prepare(rt.alloc(), &frame).ok().ok_or("memory")?;

@@ -1,6 +1,5 @@
-use Rattle.std.proofs.Common.{◌≡◌, ◌∙◌, ap, arith}
+use Rattle.std.proofs.Common.{◌∙◌, ap, arith}
 use Rattle.std.proofs.lemmas.List.Sorted.{IsPermutation-refl}
-use Rattle.tab_codec.proofs.FieldLaws.{done}
 use Rattle.tab_codec.proofs.EntityFacts.{names_differ, entity_parts, entity_gives, made_is}
 use Rattle.tab_codec.proofs.entities.read_entity.Goals as goal
 

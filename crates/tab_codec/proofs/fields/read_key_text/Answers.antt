@@ -1,4 +1,4 @@
-use Rattle.std.proofs.Common.{◌≡◌, sym, ap, ◌∙◌}
+use Rattle.std.proofs.Common.{sym, ap, ◌∙◌}
 use Rattle.tab_codec.specs.Reading.{sized_at, is_key_text}
 use Rattle.tab_codec.proofs.FieldLaws.{done}
 use Rattle.tab_codec.proofs.TextLaws.{allowed_gives, refused_gives, no_key_text, key_text_passes}

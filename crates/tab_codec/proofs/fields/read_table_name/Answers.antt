@@ -1,4 +1,4 @@
-use Rattle.std.proofs.Common.{◌≡◌, sym, ap, ◌∙◌}
+use Rattle.std.proofs.Common.{sym, ap, ◌∙◌}
 use Rattle.tab_codec.specs.Reading.{sized_at, is_table_name}
 use Rattle.tab_codec.proofs.FieldLaws.{done}
 use Rattle.tab_codec.proofs.TextLaws.{allowed_gives, refused_gives, no_table_name, table_name_passes}

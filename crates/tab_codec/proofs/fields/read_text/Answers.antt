@@ -1,4 +1,4 @@
-use Rattle.std.proofs.Common.{◌≡◌, sym, ap, ◌∙◌}
+use Rattle.std.proofs.Common.{sym, ap, ◌∙◌}
 use Rattle.std.specs.Str.{is_utf8}
 use Rattle.tab_codec.specs.Reading.{sized_at}
 use Rattle.tab_codec.proofs.FieldLaws.{done}

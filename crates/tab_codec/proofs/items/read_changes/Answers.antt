@@ -1,4 +1,4 @@
-use Rattle.std.proofs.Common.{◌≡◌, ◌++◌, ◌∷◌, [], None, ap, ◌∙◌}
+use Rattle.std.proofs.Common.{◌++◌, ◌∷◌, [], None}
 use Rattle.std.proofs.lemmas.Result.{err_from_is_err_and}
 use Rattle.tab_codec.specs.Reading.{items_at, last_read, change_at}
 use Rattle.tab_codec.proofs.Loops.{last_of, last_pushed, goes_on, ends, is_done}
