@@ -23,7 +23,7 @@ use Rattle.tab_page.specs.declared.queries.OptionRefused.{OptionRefused}
 use Rattle.tab_page.specs.declared.selects.Select.{Select}
 use Rattle.tab_page.specs.Queries.{decoded, values, single, option_at, top_of, token_of, row_of, start_of, filter_of, select_of, options_of, read_options}
 use Rattle.tab_page.specs.Tokens.{token_text, read_token}
-use Rattle.tab_page.specs.Continuations.{joined, next_query, all_from, IsReadAlone, IsReadBehind}
+use Rattle.tab_page.specs.Continuations.{joined, next_query, IsReadAlone, IsReadBehind}
 use Rattle.tab_page.proofs.TokenLaws.{one_spelling}
 
 -- ---- the pairs of joined queries
@@ -277,7 +277,7 @@ names_none (Ok f) (Ok s) (Ok t) (Ok p) (Ok r) options h none =
       partition = ap Ok absent.0;
       row = ap Ok absent.1;
       other = λ pk rk is_pk is_rk.
-        ap (λ (start : Start). with_start (top_of t) start (filter_of f) (select_of s)) (start_read pk rk is_pk is_rk) ∙ parts.other (Some (pk, rk));
+          ap (λ (start : Start). with_start (top_of t) start (filter_of f) (select_of s)) (start_read pk rk is_pk is_rk) ∙ parts.other (Some (pk, rk));
     }
 
 -- an option that is not there has no value

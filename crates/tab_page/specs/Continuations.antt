@@ -1,6 +1,5 @@
 -- What a client hands back of a continuation.
-use Rattle.std.specs.Prelude.{◌≡◌, ℕ, List, ◌∷◌, ◌++◌, Option, Some, None, Result, Ok, Err, codes}
-use Rattle.tab_keys.specs.KeyTexts.{IsKeyText}
+use Rattle.std.specs.Prelude.{◌≡◌, ℕ, List, ◌∷◌, ◌++◌, Some, None, Result, Ok, codes}
 use Rattle.tab_page.specs.Queries.{read_options}
 use Rattle.tab_page.specs.Tokens.{token_text}
 use Rattle.tab_page.specs.declared.TheConstants.{MOST_ROWS}
