@@ -3,6 +3,8 @@
 #![tactic(auto)]
 
 mod answers;
+mod bodies;
+mod entities;
 mod escapes;
 mod filters;
 mod keys;

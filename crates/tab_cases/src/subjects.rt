@@ -1,17 +1,19 @@
 //! The subjects, told by the names of their files.
 
 use crate::answers::{Answer, unknown};
-use crate::{filters, keys, moments, queries, signatures, table_names};
+use crate::{bodies, entities, filters, keys, moments, queries, signatures, table_names};
 use std::alloc::Global;
 
 /// The subjects, in the order in which they are run.
-pub const SUBJECTS: [&str; 7] = [
+pub const SUBJECTS: [&str; 9] = [
     "keys",
     "table_names",
     "moments",
+    "entities",
     "filters",
     "queries",
     "tokens",
+    "bodies",
     "signatures",
 ];
 
@@ -23,6 +25,8 @@ pub fn answer(alloc: Global, subject: &str, word: &str, fields: &[String]) -> An
         "moments" => moments::answer(alloc, word, fields),
         "filters" => filters::answer(alloc, word, fields),
         "queries" | "tokens" => queries::answer(alloc, word, fields),
+        "entities" => entities::answer(alloc, word, fields),
+        "bodies" => bodies::answer(alloc, word, fields),
         "signatures" => signatures::answer(alloc, word, fields),
         _ => unknown(),
     }
