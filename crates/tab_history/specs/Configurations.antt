@@ -95,10 +95,10 @@ tick_at config now key = max now (next_tick_at config key)
 
 -- ---- steps
 
--- a range's next tick is past the tick of a change
+-- a range's next tick is past the tick of a change, and falls at none
 abbrev pub ticked_in : Configuration → Option MapRow → ℕ → Configuration
 ticked_in config None tick = config
-ticked_in config (Some row) tick = record config { next_ticks = (row.range, tick + 1) ∷ config.next_ticks }
+ticked_in config (Some row) tick = record config { next_ticks = (row.range, max (tick + 1) (next_tick_of config.next_ticks row.range)) ∷ config.next_ticks }
 
 -- a change is one of the range that has its first key
 abbrev pub ticked_at : Configuration → List Key → ℕ → Configuration
@@ -110,7 +110,8 @@ abbrev pub ticked : Configuration → Option Doubt → Configuration
 ticked config (Some (doubt.Change table group tick)) = ticked_at config (group_keys table group) tick
 ticked config _ = config
 
--- a plan that was made takes its number, and a number for each of its new rows
+-- A plan that was made takes its number, and a number for each of its new rows. It is made behind the entries that an event
+-- settles first, and before its own turn.
 abbrev pub planned : Configuration → PlanView → Configuration
 planned config plan = record config {
   plans = plan ∷ config.plans;
@@ -144,7 +145,7 @@ turned config plan turn.Committed = committed config (plan_numbered config.plans
 turned config plan turn.Served = record config { plans = without_plan config.plans plan }
 turned config plan turn.Cancelled = record config { plans = without_plan config.plans plan }
 
--- an opening ends all plans, and goes on from the numbers that were kept
+-- an opening ends all plans, and goes on from the numbers that were kept; a run's own begins as behind a stop
 abbrev pub opened_again : Configuration → Bool → Configuration
 opened_again config true = record config { plans = []; next_range = config.kept_range; next_plan = config.kept_plan; stopped = false }
 opened_again config false = config

@@ -20,7 +20,8 @@ pub enum Denied {
     NotFound,
     /// An operation of its group was refused.
     Op(OpRefused),
-    /// The key's range is being handed over, by the plan of this number.
+    /// The key's range is being handed over by the plan of this number, or was several times since the request was asked,
+    /// lastly by this one.
     Busy { plan: u64 },
     /// No moment is left for the tick of a change.
     TimeSpent,
@@ -113,7 +114,8 @@ pub enum Entry {
         plan: u64,
         turn: Turn,
     },
-    /// A step of a plan, or a rewriting of the map, was refused; with the plan of which it is open since whether its commit stands.
+    /// A step of a plan, or a rewriting of a store, was refused; with the plan of which it is open since whether its commit
+    /// stands.
     Refused {
         why: MapRefused,
         doubt: Option<u64>,

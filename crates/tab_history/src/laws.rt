@@ -82,8 +82,8 @@ pub fn tables_that_come_and_go()
     ensures rows { (after_all nothing (making ++ listing ++ filling ++ dropping ++ making_again)).world.rows ≡ row_of_p ∷ [] }
 {}
 
-/// There are such doubts: an insert and a commit that stood between two pages, an insert that did not, and a table of
-/// which it stays open whether it was made.
+/// There are such legal histories: with an insert and a commit that stood between two pages, an insert that did not, and a
+/// table of which it stays open whether it was made. What order a plan's turns have is no part of it.
 pub fn doubts_that_end_and_stay()
     ensures legal { Legal opening (entries_of query_over_doubts ++ insert_that_did_not_stand ++ table_left_open) }
     ensures followed { IsFollowed query_over_doubts }

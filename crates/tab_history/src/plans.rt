@@ -33,7 +33,7 @@ pub enum Turn {
     Cancelled,
 }
 
-/// Why a step of a plan, or a rewriting of the map, is refused. Of several reasons the first one here is given.
+/// Why a step of a plan, or a rewriting of a store, is refused.
 #[derive(Clone, Copy, Debug)]
 pub enum MapRefused {
     /// No range has the number.
@@ -56,8 +56,8 @@ pub enum MapRefused {
     Memory,
     /// The plan is in this state, which is not the one that the step needs.
     WrongTurn { state: PlanState },
-    /// The map was rewritten as often as its epochs allow.
+    /// The store was rewritten as often as its epochs allow.
     EpochSpent,
-    /// At this byte of this disk stands what the map did not write.
+    /// At this byte of this disk stands what the store did not write.
     Damaged { disk: u64, at: u64 },
 }
