@@ -83,7 +83,7 @@ pub enum Reply {
         names: TableNames,
         next: Option<TableName>,
     },
-    /// The request was refused, and nothing changed.
+    /// The request was refused, and nothing changed, except that at a disk's failure a change may have been made.
     Denied(Denied),
 }
 
