@@ -4,12 +4,12 @@
 
 mod batches;
 mod conditions;
+mod copies;
 mod decisions;
 mod forms;
 mod http_faults;
 mod laws;
 mod preferences;
-mod queries;
 mod reads;
 mod refusals;
 mod replies;
