@@ -1,5 +1,5 @@
 -- Where a filter is refused: by the limits, and by the grammar.
-use Rattle.std.proofs.Common.{◌≡◌, inl, inr, ℕ, ◌+◌, List, [], ◌∷◌, ◌++◌, Ok, Err, Result, refl, ap, subst, ◌∙◌, arith, lit≤}
+use Rattle.std.proofs.Common.{◌≤◌, ◌≡◌, inl, inr, ℕ, ◌+◌, List, [], ◌∷◌, ◌++◌, Ok, Err, Result, refl, ap, subst, ◌∙◌, arith, lit≤}
 use Rattle.std.specs.Prelude.{IsUtf8, chars}
 use Rattle.tab_filter.specs.declared.filter_text.FilterRefused.{FilterRefused}
 use Rattle.tab_filter.specs.declared.filter_text.FilterRefused.TheVariants as refusals
@@ -67,15 +67,21 @@ no_many e = cc
 text_placed : (t : List ℕ) → Placed disjunction 15 64 0 t (parts_at t)
 text_placed t = parts_placed 15 16 64 0 t (lit≤ tt) (lit≤ tt)
 
+few_none : (n : ℕ) → 0 + n ≤ 15 → n ≤ 15
+few_none n h = omega arith
+
+few_all : (n : ℕ) → 0 + n ≡ 15 → n ≤ 15
+few_all n h = omega arith
+
 filter_deep : (t left : List ℕ) → filter_at t ≡ faulted (Deep left) → (front : List ℕ) × (t ≡ front ++ left) × OpensTooMany front left
 unfolding filter_at
 filter_deep t left h =
     let n = spaces t in
     let u = after_spaces t in
-    let place : DeepPlace disjunction 64 u left = subst (Placed disjunction 15 64 0 u) (whole_stopped (parts_at u) (Deep left) (λ l e. no_deep e) h) (text_placed u) in (
+    let place : DeepPlace disjunction 15 64 0 u left = subst (Placed disjunction 15 64 0 u) (whole_stopped (parts_at u) (Deep left) (λ l e. no_deep e) h) (text_placed u) in (
       blank n.0 (begun place.phrase []),
       front_text t u left n.0 place.phrase n.1 place.is,
-      (place.phrase, record { fits = place.fits; before = n.0; is = refl }, place.open_is, place.opens),
+      (place.phrase, record { fits = place.fits; nests = place.nests; few = few_none (comparisons_before place.phrase) place.few; before = n.0; is = refl }, place.open_is, place.opens),
     )
 
 from_none : (n : ℕ) → 0 + n ≡ 15 → n ≡ 15
@@ -86,11 +92,11 @@ unfolding filter_at
 filter_many t h =
     let n = spaces t in
     let u = after_spaces t in
-    let place : ManyPlace disjunction 15 0 u = subst (Placed disjunction 15 64 0 u) (whole_stopped (parts_at u) TooMany (λ l e. no_many e) h) (text_placed u) in (
+    let place : ManyPlace disjunction 15 64 0 u = subst (Placed disjunction 15 64 0 u) (whole_stopped (parts_at u) TooMany (λ l e. no_many e) h) (text_placed u) in (
       blank n.0 (begun place.phrase []),
       place.left,
       front_text t u place.left n.0 place.phrase n.1 place.is,
-      (place.phrase, record { fits = place.fits; before = n.0; is = refl }, from_none (comparisons_before place.phrase) place.many, place.begins),
+      (place.phrase, record { fits = place.fits; nests = place.nests; few = few_all (comparisons_before place.phrase) place.many; before = n.0; is = refl }, from_none (comparisons_before place.phrase) place.many, place.begins),
     )
 
 at_same : {a b : ℕ} → refusals.Syntax a ≡ refusals.Syntax b → a ≡ b

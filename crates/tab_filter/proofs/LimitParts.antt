@@ -10,7 +10,7 @@ use Rattle.tab_filter.specs.Lexer.{Read, Syntax, BadLiteral, Deep, TooMany, star
 use Rattle.tab_filter.specs.Literals.{literal_at}
 use Rattle.tab_filter.specs.Parser.{PartView, AllView, AnyView, room_at, compared_at, operation_at, operand_at, begins_literal, negated, not_name, Inner, part_at, named_at, either_at, ambiguous_at, second_named_at, second_at, sole_operator, unless_sole, all_more, all_at, any_more, any_at, closed_group, inner_at}
 use Rattle.tab_filter.specs.Grammar.{IsName, Phrase, blank, text_of, closes, comparisons, Level, unary, conjunction, disjunction, IsGap}
-use Rattle.tab_filter.specs.Limits.{Unfinished, Due, InGroup, InNegation, InJoined, InParted, begun, begun_opens, BegunFits, open_before, comparisons_before, BeginsOpening, BeginsComparison}
+use Rattle.tab_filter.specs.Limits.{Unfinished, Due, InGroup, InNegation, InJoined, InParted, begun, begun_opens, BegunFits, BegunNests, open_before, comparisons_before, BeginsOpening, BeginsComparison}
 use Rattle.tab_filter.proofs.LexerLaws.{is_not-is, letters, letters-text, not_is_name, name_no_opening}
 use Rattle.tab_filter.proofs.Splits.{whole_name_split}
 use Rattle.tab_filter.proofs.Phrases.{blank_append, operator_append, text_append, text_begins, some_comparison}
@@ -20,17 +20,20 @@ use Rattle.tab_filter.proofs.SoundParser.{PartText, gap_for, operator_letters, s
 use Rattle.tab_filter.proofs.SoundPhrases.{AllText, PartsSound, all_sound, or_tail, inner_sound}
 use Rattle.tab_filter.proofs.Quiet.{Quiet, quiet_bind, expect_quiet, gap_quiet, operator_quiet, joint_quiet, literal_quiet}
 
-pub record DeepPlace (level : Level) (depth : ℕ) (t left : List ℕ) : Type 0 where
+pub record DeepPlace (level : Level) (most depth used : ℕ) (t left : List ℕ) : Type 0 where
   pub phrase : Unfinished
   pub fits : BegunFits level phrase (starts 40 left)
+  pub nests : BegunNests phrase depth
+  pub few : used + comparisons_before phrase ≤ most
   pub open_is : open_before phrase ≡ depth
   pub opens : BeginsOpening left
   pub is : t ≡ begun phrase left
 
-pub record ManyPlace (level : Level) (most used : ℕ) (t : List ℕ) : Type 0 where
+pub record ManyPlace (level : Level) (most depth used : ℕ) (t : List ℕ) : Type 0 where
   pub phrase : Unfinished
   pub left : List ℕ
   pub fits : BegunFits level phrase (starts 40 left)
+  pub nests : BegunNests phrase depth
   pub many : used + comparisons_before phrase ≡ most
   pub begins : BeginsComparison left
   pub is : t ≡ begun phrase left
@@ -41,8 +44,8 @@ abbrev pub Placed : {A : Type 0} → Level → ℕ → ℕ → ℕ → List ℕ 
 Placed level most depth used t (Ok x) = Unit {0}
 Placed level most depth used t (Err (Syntax left)) = Unit {0}
 Placed level most depth used t (Err (BadLiteral left)) = Unit {0}
-Placed level most depth used t (Err (Deep left)) = DeepPlace level depth t left
-Placed level most depth used t (Err TooMany) = ManyPlace level most used t
+Placed level most depth used t (Err (Deep left)) = DeepPlace level most depth used t left
+Placed level most depth used t (Err TooMany) = ManyPlace level most depth used t
 
 placed_quiet : {A : Type 0} (level : Level) (most depth used : ℕ) (t : List ℕ) (r : Read A) → Quiet r → Placed level most depth used t r
 placed_quiet level most depth used t (Ok x) h = tt
@@ -74,9 +77,13 @@ placed_if level most depth used t false x y f g = g refl
 record Wrapped (to : Level) (d1 d2 used1 used2 : ℕ) (t : List ℕ) (phrase : Unfinished) (left : List ℕ) : Type 0 where
   whole : Unfinished
   fits : BegunFits to whole (starts 40 left)
+  nests : BegunNests phrase d1 → BegunNests whole d2
   open_is : open_before whole + d1 ≡ d2 + open_before phrase
   many : used2 + comparisons_before whole ≡ used1 + comparisons_before phrase
   is : t ≡ begun whole left
+
+fewer : (a b most : ℕ) → a ≡ b → b ≤ most → a ≤ most
+fewer a b most h i = omega arith
 
 equal_open : (w d1 d2 o : ℕ) → w + d1 ≡ d2 + o → o ≡ d1 → w ≡ d2
 equal_open w d1 d2 o h e = omega arith
@@ -87,10 +94,10 @@ placed_wrap from to most d1 d2 used1 used2 u t (Err (Syntax left)) wrap h = tt
 placed_wrap from to most d1 d2 used1 used2 u t (Err (BadLiteral left)) wrap h = tt
 placed_wrap from to most d1 d2 used1 used2 u t (Err (Deep left)) wrap h =
     let w = wrap h.phrase left h.fits h.is in
-    record { phrase = w.whole; fits = w.fits; open_is = equal_open (open_before w.whole) d1 d2 (open_before h.phrase) w.open_is h.open_is; opens = h.opens; is = w.is }
+    record { phrase = w.whole; fits = w.fits; nests = w.nests h.nests; few = fewer (used2 + comparisons_before w.whole) (used1 + comparisons_before h.phrase) most w.many h.few; open_is = equal_open (open_before w.whole) d1 d2 (open_before h.phrase) w.open_is h.open_is; opens = h.opens; is = w.is }
 placed_wrap from to most d1 d2 used1 used2 u t (Err TooMany) wrap h =
     let w = wrap h.phrase h.left h.fits h.is in
-    record { phrase = w.whole; left = h.left; fits = w.fits; many = w.many ∙ h.many; begins = h.begins; is = w.is }
+    record { phrase = w.whole; left = h.left; fits = w.fits; nests = w.nests h.nests; many = w.many ∙ h.many; begins = h.begins; is = w.is }
 
 -- ---- spaces
 edge_placed : {A : Type 0} (level : Level) (most depth used : ℕ) (t u : List ℕ) (f : List ℕ → Read A) → ((n : ℕ) (w : List ℕ) → u ≡ blank n w → IsEdge n w → Placed level most depth used t (f w)) → Placed level most depth used t (edge_at u >>= λ e. f e.1)
@@ -107,13 +114,16 @@ gap_placed level most depth used t u f next =
     (λ x s g is. next g.count x.1 (is ∙ ap (λ (l : List ℕ). l ++ x.1) g.is ∙ blank_into g.count x.1) g.some)
 
 -- ---- comparisons
+none_more : (used most : ℕ) → used ≤ most → used + 0 ≤ most
+none_more used most h = omega arith
+
 filled : (used most : ℕ) → used ≤ most → most ≤ used → used + 0 ≡ most
 filled used most h i = omega arith
 
 room_placed : {A : Type 0} (most depth used : ℕ) (t u : List ℕ) (f : Unit {0} × List ℕ → Read A) → used ≤ most → BeginsComparison t → Quiet (f (tt, u)) → Placed unary most depth used t (room_at most used u >>= f)
 room_placed {A} most depth used t u f few begins quiet =
     elim (nat_le most used) as (λ v. nat_le most used ≡ v → Placed unary most depth used t (cond {A = Read (Unit {0})} v (Err TooMany) (Ok (tt, u)) >>= f)) [
-      | true ↦ λ h. record { phrase = Due; left = t; fits = tt; many = filled used most few (leb-true most used h); begins = begins; is = refl }
+      | true ↦ λ h. record { phrase = Due; left = t; fits = tt; nests = tt; many = filled used most few (leb-true most used h); begins = begins; is = refl }
       | false ↦ λ h. placed_quiet unary most depth used t (f (tt, u)) quiet
     ] refl
 
@@ -185,7 +195,7 @@ one_open o d = omega arith
 in_negation : {A : Type 0} (most depth used n : ℕ) (t u : List ℕ) (r : Read A) → t ≡ codes "not" ++ blank n u → IsEdge n u → Placed unary most depth used u r → Placed unary most (suc depth) used t r
 in_negation most depth used n t u r is edge h =
     placed_wrap unary unary most depth (suc depth) used used u t r
-    (λ c left f e. record { whole = InNegation n c; fits = (begun_gap unary c left u n f e edge, f); open_is = one_open (open_before c) depth; many = refl; is = is ∙ ap (λ (l : List ℕ). codes "not" ++ blank n l) e })
+    (λ c left f e. record { whole = InNegation n c; fits = (begun_gap unary c left u n f e edge, f); nests = λ m. m; open_is = one_open (open_before c) depth; many = refl; is = is ∙ ap (λ (l : List ℕ). codes "not" ++ blank n l) e })
     h
 
 negated_placed : (level : Level) (most depth used : ℕ) (t : List ℕ) (r : Read PartView) → Placed level most depth used t r → Placed level most depth used t (negated r)
@@ -237,7 +247,7 @@ second_placed most depth inner law used n t u few is edge =
 closed_not : (most used : ℕ) (text left : List ℕ) → used ≤ most → whole_name text ≡ codes "not" → text ≡ codes "not" ++ left → Placed unary most 0 used text (unless_sole most used text (sole_operator left))
 closed_not most used text left few named is =
     elim (sole_operator left) as (λ v. sole_operator left ≡ v → Placed unary most 0 used text (unless_sole most used text v)) [
-      | None ↦ λ h. record { phrase = Due; fits = tt; open_is = refl; opens = inr named; is = refl }
+      | None ↦ λ h. record { phrase = Due; fits = tt; nests = tt; few = none_more used most few; open_is = refl; opens = inr named; is = refl }
       | Some x ↦ λ h. let f = sole_found left x h in
           operand_placed most 0 used text not_name x.0 x.1 few (compares_not text f.before x.0 (blank f.behind x.1) f.some (is ∙ ap (λ (l : List ℕ). codes "not" ++ l) f.is))
     ] refl
@@ -277,6 +287,7 @@ in_joined most depth used a s u t b w n r p tail gap edge is h =
     (λ c left f e. record {
       whole = InJoined p.phrase tail.0 n c;
       fits = (subst (λ (b : Bool). IsGap b tail.0) p.closed_is tail.1, begun_gap conjunction c left w n f e edge, p.fits, f);
+      nests = λ m. (p.nests, m);
       open_is = swap_open (open_before c) depth;
       many = more_many used (comparisons p.phrase) (comparisons_before c) a.used p.used_is;
       is = is ∙ joint_text p.phrase tail.0 (97 ∷ 110 ∷ 100 ∷ []) s u b p.is tail.2 ∙ ap (λ (l : List ℕ). text_of p.phrase (blank tail.0 (97 ∷ 110 ∷ 100 ∷ l))) (gap ∙ ap (blank n) e);
@@ -302,7 +313,7 @@ unfolding all_at
 all_placed most depth part sound law zero used t few room = absurd (no_room most used few room)
 all_placed most depth part sound law (suc n) used t few room =
     placed_after (PartText most depth used) conjunction most depth used t t (part used t) (λ a. joint_at a.0.closed a.1 >>= λ k. all_more (all_at part n) a.0 k.0 k.1) (sound used t)
-    (placed_wrap unary conjunction most depth depth used used t t (part used t) (λ c left f e. record { whole = c; fits = unary_begun c (starts 40 left) f; open_is = swap_open (open_before c) depth; many = refl; is = e }) (law used t few))
+    (placed_wrap unary conjunction most depth depth used used t t (part used t) (λ c left f e. record { whole = c; fits = unary_begun c (starts 40 left) f; nests = λ m. m; open_is = swap_open (open_before c) depth; many = refl; is = e }) (law used t few))
     (λ x s g is. placed_after (Tail x.0.closed) conjunction most depth used t x.1 (joint_at x.0.closed x.1) (λ k. all_more (all_at part n) x.0 k.0 k.1) (joint_sound x.0.closed x.1)
     (placed_quiet conjunction most depth used t (joint_at x.0.closed x.1) (joint_quiet x.0.closed x.1))
     (λ y u h split. more_placed most depth used (all_at part n) x.0 y.0 s u t y.1 g h (is ∙ ap (λ (l : List ℕ). s ++ l) split)
@@ -316,6 +327,7 @@ in_parted most depth used a s t b w n r g joint gap edge is h =
     (λ c left f e. record {
       whole = InParted g.phrase tail.0 n c;
       fits = (tail.1, begun_gap disjunction c left w n f e edge, g.fits, f);
+      nests = λ m. (g.nests, m);
       open_is = swap_open (open_before c) depth;
       many = more_many used (comparisons g.phrase) (comparisons_before c) a.used g.used_is;
       is = is ∙ ap (λ (l : List ℕ). l ++ b) g.is ∙ sym (text_append g.phrase g.tail b) ∙ ap (λ (l : List ℕ). text_of g.phrase (l ++ b)) tail.2 ∙ ap (text_of g.phrase) (sym (blank_append tail.0 (111 ∷ 114 ∷ []) b)) ∙ ap (λ (l : List ℕ). text_of g.phrase (blank tail.0 (111 ∷ 114 ∷ l))) (gap ∙ ap (blank n) e);
@@ -338,7 +350,7 @@ unfolding any_at
 any_placed most depth part sound law parts enough zero used t few room = absurd (no_room most used few room)
 any_placed most depth part sound law parts enough (suc n) used t few room =
     placed_after (AllText most depth used) disjunction most depth used t t (all_at part parts used t) (λ a. any_more (any_at part parts n) a.0 a.0.joint a.1) (all_sound most depth part sound parts used t)
-    (placed_wrap conjunction disjunction most depth depth used used t t (all_at part parts used t) (λ c left f e. record { whole = c; fits = all_begun c (starts 40 left) f; open_is = swap_open (open_before c) depth; many = refl; is = e })
+    (placed_wrap conjunction disjunction most depth depth used used t t (all_at part parts used t) (λ c left f e. record { whole = c; fits = all_begun c (starts 40 left) f; nests = λ m. m; open_is = swap_open (open_before c) depth; many = refl; is = e })
     (all_placed most depth part sound law parts used t few (more_room most used parts enough)))
     (λ x s g is. any_more_placed most depth used (any_at part parts n) x.0 x.0.joint s t x.1 refl g is
     (λ w. any_placed most depth part sound law parts enough n x.0.used w g.few (less_room most used n (comparisons g.phrase) x.0.used room g.used_is (some_comparison g.phrase))))
@@ -350,14 +362,14 @@ group_placed most depth parts used part text left sound law enough few is =
     let u = after_spaces left in
     placed_bind unary most (suc depth) used text (any_at part parts parts used u) _
     (placed_wrap disjunction unary most depth (suc depth) used used u text (any_at part parts parts used u)
-    (λ c left f e. record { whole = InGroup n.0 c; fits = f; open_is = one_open (open_before c) depth; many = refl; is = is ∙ ap (λ (l : List ℕ). 40 ∷ l) (n.1 ∙ ap (blank n.0) e) })
+    (λ c left f e. record { whole = InGroup n.0 c; fits = f; nests = λ m. m; open_is = one_open (open_before c) depth; many = refl; is = is ∙ ap (λ (l : List ℕ). 40 ∷ l) (n.1 ∙ ap (blank n.0) e) })
     (any_placed most depth part sound law parts enough parts used u few (more_room most used parts enough)))
     (λ x. placed_quiet unary most (suc depth) used text _ (quiet_bind (expect 41 x.1) _ (expect_quiet 41 x.1) (λ e. tt)))
 
 pub inner_placed : (most parts depth : ℕ) → most < parts → InnerPlaced most depth (inner_at most parts depth)
 unfolding inner_at
 inner_placed most parts zero enough = record {
-  group = λ used text left few is. record { phrase = Due; fits = tt; open_is = refl; opens = inl (ap (starts 40) is); is = refl };
+  group = λ used text left few is. record { phrase = Due; fits = tt; nests = tt; few = none_more used most few; open_is = refl; opens = inl (ap (starts 40) is); is = refl };
   negation = λ used text left few named is. closed_not most used text left few named is;
 }
 inner_placed most parts (suc depth) enough = record {

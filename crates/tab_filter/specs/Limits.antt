@@ -1,13 +1,13 @@
 -- Where a text of characters exceeds a limit: behind an unfinished phrase, in which as many `(` and `not` are open as may
 -- be, or of which as many comparisons are read.
-use Rattle.std.specs.Prelude.{◌≡◌, ◌⊎◌, ℕ, suc, ◌+◌, ◌<◌, List, [], ◌∷◌, ◌++◌, Bool, true, false, codes}
+use Rattle.std.specs.Prelude.{◌≡◌, ◌⊎◌, ℕ, zero, suc, ◌+◌, ◌<◌, ◌≤◌, List, [], ◌∷◌, ◌++◌, Bool, true, false, codes}
 use Rattle.tab_filter.specs.declared.trees.Operator.{Operator}
 use Rattle.tab_filter.specs.declared.parser.TheConstants.{MOST_COMPARISONS}
 use Rattle.tab_filter.specs.declared.filter_text.TheConstants.{MOST_OPEN}
 use Rattle.tab_filter.specs.declared.filter_text.FilterRefused.{FilterRefused}
 use Rattle.tab_filter.specs.declared.filter_text.FilterRefused.TheVariants as refusals
 use Rattle.tab_filter.specs.Lexer.{starts, whole_name}
-use Rattle.tab_filter.specs.Grammar.{Phrase, blank, text_of, opens, closes, comparisons, operator_text, IsName, IsGap, Level, unary, conjunction, disjunction, Fits}
+use Rattle.tab_filter.specs.Grammar.{Phrase, blank, text_of, opens, closes, comparisons, operator_text, IsName, IsGap, Level, unary, conjunction, disjunction, Fits, Nests}
 use Rattle.tab_filter.specs.Offsets.{IsAtOffset, StopsHere}
 
 -- A phrase up to where a comparison, a group or a negation is due: behind a `(` that no `)` closes yet, and how many
@@ -50,6 +50,16 @@ BegunFits conjunction (InParted first a b second) next = ⊥
 BegunFits disjunction (InParted first a b second) next =
     IsGap (closes first) a × IsGap (begun_opens second next) b × Fits conjunction first × BegunFits disjunction second next
 
+-- at most so many `(` and `not` are open at a time, up to its end
+abbrev pub BegunNests : Unfinished → ℕ → Type 0
+BegunNests Due depth = Unit {0}
+BegunNests (InGroup a inner) zero = ⊥
+BegunNests (InGroup a inner) (suc depth) = BegunNests inner depth
+BegunNests (InNegation a inner) zero = ⊥
+BegunNests (InNegation a inner) (suc depth) = BegunNests inner depth
+BegunNests (InJoined first a b second) depth = Nests first depth × BegunNests second depth
+BegunNests (InParted first a b second) depth = Nests first depth × BegunNests second depth
+
 -- the `(` and `not` that are open at its end
 abbrev pub open_before : Unfinished → ℕ
 open_before Due = 0
@@ -80,9 +90,11 @@ pub record BeginsComparison (left : List ℕ) : Type 0 where
   pub rest : List ℕ
   pub is : left ≡ name ++ blank spaces (operator_text operator rest)
 
--- a front is some spaces and an unfinished phrase
+-- a front is some spaces and an unfinished phrase within the limits
 pub record IsUnfinished (phrase : Unfinished) (front left : List ℕ) : Type 0 where
   pub fits : BegunFits disjunction phrase (starts 40 left)
+  pub nests : BegunNests phrase MOST_OPEN
+  pub few : comparisons_before phrase ≤ MOST_COMPARISONS
   pub before : ℕ
   pub is : front ≡ blank before (begun phrase [])
 
