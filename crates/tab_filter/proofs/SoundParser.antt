@@ -284,7 +284,7 @@ pick name false x o rest e here there = there e
 none_operator : {o : Operator} → None ≡ Some o → ⊥
 none_operator e = cc
 
-operator_letters : (name : List ℕ) (o : Operator) → operator_named name ≡ Some o → name ≡ letters o
+pub operator_letters : (name : List ℕ) (o : Operator) → operator_named name ≡ Some o → name ≡ letters o
 unfolding operator_named
 operator_letters [] o h = absurd (none_operator h)
 operator_letters (a ∷ []) o h = absurd (none_operator h)

@@ -118,7 +118,7 @@ some_all : (most depth used : ℕ) → AllText most depth used false (alone (com
 some_all most depth used =
     one_all most depth used (compared (101 ∷ []) Equal (Int32 (pos 0)) used) Neither false neither_no_and (101 ∷ 32 ∷ 101 ∷ 113 ∷ 32 ∷ 48 ∷ []) [] (some_part most depth used (101 ∷ []) some_name) (0, refl)
 
-abbrev PartsSound : ℕ → ℕ → (ℕ → List ℕ → Read PartView) → Type 0
+abbrev pub PartsSound : ℕ → ℕ → (ℕ → List ℕ → Read PartView) → Type 0
 PartsSound most depth part = (used : ℕ) (t : List ℕ) → Sound (PartText most depth used) t (part used t)
 
 more_all : (most depth used : ℕ) (rest : ℕ → List ℕ → Read AllView) (a : PartView) (joint : Joint) (t : List ℕ) → ((used : ℕ) (t : List ℕ) → Sound (AllText most depth used) t (rest used t)) → Sound (AfterJoint most depth used a joint) t (all_more rest a joint t)
@@ -179,7 +179,7 @@ alone_any a = record { tree = a.tree; used = a.used }
 neither_tail : (closed : Bool) (joint : Joint) (t : List ℕ) → joint ≡ Neither → TailText closed joint t → (n : ℕ) × (t ≡ blank n [])
 neither_tail closed joint t e tail = subst (λ (j : Joint). TailText closed j t) e tail
 
-or_tail : (closed : Bool) (joint : Joint) (t : List ℕ) → joint ≡ Or → TailText closed joint t → (n : ℕ) × IsGap closed n × (t ≡ blank n (111 ∷ 114 ∷ []))
+pub or_tail : (closed : Bool) (joint : Joint) (t : List ℕ) → joint ≡ Or → TailText closed joint t → (n : ℕ) × IsGap closed n × (t ≡ blank n (111 ∷ 114 ∷ []))
 or_tail closed joint t e tail = subst (λ (j : Joint). TailText closed j t) e tail
 
 one_any : (most depth used : ℕ) (a : AllView) (k : Bool) → a.joint ≡ Neither → AfterAll most depth used a k (alone_any a) []
