@@ -108,7 +108,7 @@ abbrev pub ComparesTooMany : List ℕ → List ℕ → Type 0
 ComparesTooMany front left =
     (phrase : Unfinished) × IsUnfinished phrase front left × (comparisons_before phrase ≡ MOST_COMPARISONS) × BeginsComparison left
 
--- where a refusal is, by the grammar alone
+-- where a refusal is, by the grammar alone; of a bad literal `IsRefused` says it
 abbrev pub IsPlaced : List ℕ → FilterRefused → Type 0
 IsPlaced characters refusals.Memory = Unit {0}
 IsPlaced characters (refusals.Syntax at) = IsAtOffset characters at StopsHere ⊎ IsAtOffset characters at OpensTooMany
