@@ -1,5 +1,5 @@
 -- A request is taken exactly where it is signed as it must be.
-use Rattle.std.proofs.Common.{◌≡◌, ◌↔◌, ◌⊎◌, ℕ, ◌+◌, List, [], ◌∷◌, ◌++◌, length, drop, Bool, true, false, ◌&&◌, ◌==◌, Option, Some, None, codes, bytes_eq, pos, ◌+ℤ◌, ◌≤ℤ◌, ◌<ℤ◌, ℤ, if◌then◌else◌, int_lt, not, T, refl, sym, ap, subst, ◌∙◌, inl, inr, arith, append_assoc}
+use Rattle.std.proofs.Common.{◌≡◌, ◌↔◌, ◌⊎◌, ℕ, ◌+◌, List, [], ◌∷◌, ◌++◌, length, drop, Bool, true, false, ◌==◌, Option, Some, None, codes, bytes_eq, pos, ◌+ℤ◌, ◌≤ℤ◌, ◌<ℤ◌, ℤ, if◌then◌else◌, int_lt, not, T, refl, sym, ap, subst, ◌∙◌, inl, inr, arith, append_assoc}
 use Rattle.std.proofs.lemmas.List.{take_at, drop_at, drop-drop}
 use Rattle.std.proofs.lemmas.Bool.{eqb-true, and_parts}
 use Rattle.std.proofs.lemmas.Bool.Decides.{Decides-eqb}
