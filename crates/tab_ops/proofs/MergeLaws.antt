@@ -15,8 +15,7 @@ use Rattle.tab_edm.specs.declared.values.Value.{Value}
 use Rattle.tab_edm.proofs.Order.{not_below_itself}
 use Rattle.tab_rows.proofs.Lists.{AllPairs-head, AllPairs-tail}
 use Rattle.tab_ops.specs.Changes.{with_property, merged, within_limits, merge_outcome}
-use Rattle.tab_ops.specs.Laws.{IsMergeOf, MakesMerge, IsPastLimits}
-use Rattle.tab_ops.specs.Merges.{is_kept}
+use Rattle.tab_ops.specs.Laws.{MakesMerge, IsPastLimits}
 use Rattle.tab_ops.specs.declared.groups.OpRefused.{OpRefused}
 use Rattle.tab_ops.specs.declared.groups.OpRefused.TheVariants.{TooMany, TooLarge}
 use Rattle.tab_ops.proofs.Properties.{below_kept, merged_rising}

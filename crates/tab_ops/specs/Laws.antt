@@ -7,7 +7,7 @@ use Rattle.tab_rows.specs.Rows.{RowView, row_at}
 use Rattle.tab_ops.specs.Groups.{ItemView, item_key}
 use Rattle.tab_ops.specs.declared.groups.OpRefused.{OpRefused}
 use Rattle.tab_ops.specs.declared.groups.OpRefused.TheVariants.{TooMany, TooLarge}
-use Rattle.tab_ops.specs.Changes.{outcome_of, merge_outcome, group_keys}
+use Rattle.tab_ops.specs.Changes.{outcome_of, group_keys}
 
 -- what stands at a key after it was made this, with this tick
 abbrev pub row_made : Key → ℕ → Option EntityView → Option RowView
