@@ -7,7 +7,7 @@ use Rattle.tab_filter.specs.declared.trees.Operator.{Operator}
 use Rattle.tab_filter.specs.declared.trees.Operator.TheVariants.{Greater, GreaterOrEqual}
 use Rattle.tab_filter.specs.declared.lexer.Joint.{Joint}
 use Rattle.tab_filter.specs.declared.lexer.Joint.TheVariants.{And, Or, Neither}
-use Rattle.tab_filter.specs.Trees.{Negation, Both, Either}
+use Rattle.tab_filter.specs.Trees.{Both, Either}
 use Rattle.tab_keys.specs.Results.{◌>>=◌}
 use Rattle.tab_filter.specs.Lexer.{Read, Syntax, Deep, TooMany, starts, front_of, behind, is_plain, expect, gap_at, edge_at, either_letter_at, operator_at, name_at, is_not, operator_named, joint_at}
 use Rattle.tab_filter.specs.Literals.{literal_at, word_at}
@@ -15,7 +15,7 @@ use Rattle.tab_filter.specs.Parser.{PartView, AllView, AnyView, compared, room_a
 use Rattle.tab_filter.specs.Grammar.{blank}
 use Rattle.tab_filter.proofs.Splits.{split_behind}
 use Rattle.tab_filter.proofs.Phrases.{blank_append}
-use Rattle.tab_filter.proofs.LexerLaws.{starts-blank, after_blank, gap_complete, edge_complete, ends_name-blank, NameRead, name_read, name_complete, name_no_space, name_no_opening, letters, letters_are_name, operator_named-letters, is_not-letters}
+use Rattle.tab_filter.proofs.LexerLaws.{starts-blank, after_blank, gap_complete, edge_complete, ends_name-blank, name_complete, name_no_space, name_no_opening, letters, letters_are_name, operator_named-letters, is_not-letters}
 use Rattle.tab_filter.proofs.Complete.{letters_read}
 use Rattle.tab_filter.proofs.SoundParser.{negation_of, Sole, sole_found, sole_into}
 use Rattle.tab_filter.proofs.SoundPhrases.{group_of}
