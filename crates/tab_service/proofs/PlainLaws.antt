@@ -172,9 +172,12 @@ denied_plain group denied.NoTable suits = put_fault 0 cause.no_table (mild_statu
 denied_plain group denied.TableThere suits = absurd (true≢false suits)
 denied_plain group denied.NotFound suits = absurd (true≢false suits)
 denied_plain group (denied.Op why) suits = refused_plain why
+denied_plain group (denied.Busy plan) suits = inr (record { why = cause.busy plan; text_is = refl })
 denied_plain group denied.TimeSpent suits = inr (record { why = cause.time_spent; text_is = refl })
 denied_plain group denied.IdsSpent suits = inr (record { why = cause.numbers_spent; text_is = refl })
+denied_plain group (denied.DiskFault disk) suits = inr (record { why = cause.disk_failed disk; text_is = refl })
 denied_plain group denied.Memory suits = inr (record { why = cause.no_memory; text_is = refl })
+denied_plain group (denied.Damaged disk at) suits = inr (record { why = cause.disk_damaged disk at; text_is = refl })
 
 change_plain : (account : List ℕ) (json : JsonForm) (parts : List PartForm) (group : List ItemView) (answer : Reply) → SuitsAsk true (ask.Change group) answer
     → IsPlainOrWhole (reply_to_ask (record { account = account; batch = true; json = json; parts = parts }) (ask.Change group) answer)
