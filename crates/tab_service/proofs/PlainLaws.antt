@@ -1,5 +1,5 @@
 -- The replies to the parts of a batch are plain.
-use Rattle.std.proofs.Common.{◌≡◌, ◌≢◌, ℕ, inl, inr, List, [], ◌∷◌, ◌++◌, length, flat_map, Bool, true, false, codes, decimal, Option, Some, None, refl, sym, subst, ◌∙◌, append_assoc, append-nil, true≢false}
+use Rattle.std.proofs.Common.{◌≡◌, ℕ, inl, inr, List, [], ◌∷◌, ◌++◌, length, flat_map, Bool, true, false, codes, decimal, Option, Some, None, refl, sym, subst, ◌∙◌, append_assoc, append-nil, true≢false}
 use Rattle.std.specs.Prelude.{unwrap_or}
 use Rattle.std.specs.List.{AllByRecursion}
 use Rattle.http.specs.StatusCode.{status_text, reason_phrase}
