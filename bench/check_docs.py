@@ -29,7 +29,7 @@ PROTOCOL = """GET POST PUT MERGE PATCH DELETE post Accept Authorization Content-
 x-ms-date x-ms-version x-ms-continuation-NextTableName x-ms-continuation-NextPartitionKey x-ms-continuation-NextRowKey keep-alive close
 SharedKeyLite NextTableName NextPartitionKey NextRowKey PartitionKey RowKey Timestamp TableName Tables odata.metadata comp
 ACCOUNT KEY SERVERS INDEX T P R W YYYY-MM-DDTHH:MM:SS.fffffffZ
-eq ne gt ge lt le and or not guid end now call drive init load show usage: event reply read out status signed unsigned talk words
+eq ne gt ge lt le and or not guid end now call drive init load show usage: event reply read out status repeat again talk words
 content-type: urn:uuid: gu g A tables: filters: libsqlite3-dev SUBJECT NAME key at rows item act all crlf lf text shop""".split()
 
 ALLOWED = set(KIT) | set(PROTOCOL)

@@ -1,7 +1,7 @@
 -- A request is taken exactly where it is signed as it must be.
-use Rattle.std.proofs.Common.{◌≡◌, ◌↔◌, ◌⊎◌, ℕ, ◌+◌, List, [], ◌∷◌, ◌++◌, length, drop, Bool, true, false, ◌&&◌, ◌==◌, Option, Some, None, codes, bytes_eq, pos, ◌+ℤ◌, ◌≤ℤ◌, ◌<ℤ◌, ℤ, if◌then◌else◌, int_lt, not, T, refl, sym, ap, subst, ◌∙◌, inl, inr, arith, append_assoc}
+use Rattle.std.proofs.Common.{◌≡◌, ◌↔◌, ◌⊎◌, ℕ, ◌+◌, List, [], ◌∷◌, ◌++◌, length, drop, Bool, true, false, ◌==◌, Option, Some, None, codes, bytes_eq, pos, ◌+ℤ◌, ◌≤ℤ◌, ◌<ℤ◌, ℤ, if◌then◌else◌, int_lt, not, T, refl, sym, ap, subst, ◌∙◌, inl, inr, arith, append_assoc}
 use Rattle.std.proofs.lemmas.List.{take_at, drop_at, drop-drop}
-use Rattle.std.proofs.lemmas.Bool.{eqb-true}
+use Rattle.std.proofs.lemmas.Bool.{eqb-true, and_parts}
 use Rattle.std.proofs.lemmas.Bool.Decides.{Decides-eqb}
 use Rattle.std.proofs.lemmas.Int.{ints}
 use Rattle.std.specs.Int.Signed.{lt_z_yes, lt_z_no}
@@ -30,10 +30,6 @@ not_refused false why rest e = (refl, e)
 neither : (a b : Option AuthRefused) → option_or a b ≡ None → (a ≡ None) × (b ≡ None)
 neither None b e = (refl, e)
 neither (Some why) b e = cc
-
-both : (a b : Bool) → (a && b) ≡ true → (a ≡ true) × (b ≡ true)
-both true b e = (refl, e)
-both false b e = cc
 
 passed_last : (test : Bool) (why : AuthRefused) → (if test then None else Some why) ≡ None → test ≡ true
 passed_last true why e = refl
@@ -84,7 +80,7 @@ ends_there rest (inr h) = ap ends_segment h.1
 found_account : (account path : List ℕ) → names_account account path ≡ true → (rest : List ℕ) × (path ≡ codes "/" ++ account ++ rest) × ((rest ≡ []) ⊎ ((more : List ℕ) × (rest ≡ codes "/" ++ more)))
 unfolding names_account
 found_account account path e =
-    let h = both _ _ e in
+    let h = and_parts _ _ e in
     (drop (length (codes "/" ++ account)) path, (starts_is Decides-eqb path (codes "/" ++ account) _ refl).0 h.0, segment_end _ h.1)
 
 not_below : (a b : ℤ) → int_lt a b ≡ false → b ≤ℤ a
@@ -124,7 +120,7 @@ taken account key signed now e =
     let c = taken_claim account key signed now (option_and_then claim_of signed.authorization) e in
     let a = taken_text signed.authorization c.0 c.1 in
     let spelled = spelled_claim a.0 c.0 a.2 in
-    let known = both _ _ c.2 in
+    let known = and_parts _ _ c.2 in
     let path = found_account account signed.path known.1 in
     let d = taken_date account key signed now c.0.signature signed.date c.3 in
     let s = taken_second now (parse_secs d.0) d.2 in

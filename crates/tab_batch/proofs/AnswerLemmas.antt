@@ -1,4 +1,4 @@
--- The bytes of a batch decide its answer.
+-- The bytes of a batch decide its answer, and have one.
 use Rattle.std.proofs.Common.{◌≡◌, ℕ, suc, List, [], ◌∷◌, ◌++◌, length, drop, refl, sym, ap, ◌∙◌, subst}
 use Rattle.std.specs.Prelude.{Option, Some, Result, Ok, Err}
 use Rattle.httparse.specs.Grammar.{RequestHead, print_request}
@@ -106,3 +106,43 @@ a_batch_has_one_answer boundary bytes (Ok ms) (Ok ns) p q =
 a_batch_has_one_answer boundary bytes (Ok ms) (Err b) p q = absurd (read_or_refused boundary bytes ms b p q)
 a_batch_has_one_answer boundary bytes (Err a) (Ok ns) p q = absurd (read_or_refused boundary bytes ns a q p)
 a_batch_has_one_answer boundary bytes (Err a) (Err b) p q = ap Err (same_refusal boundary bytes a b p q)
+
+-- ---- some answer
+
+behind_one : (part : List ℕ) (message : Message) (parts : List (List ℕ)) (index : ℕ) → IsRequest part message → FirstBad parts index → FirstBad (part ∷ parts) (suc index)
+behind_one part message parts index is bad = record {
+  front = part ∷ bad.front;
+  messages = message ∷ bad.messages;
+  part = bad.part;
+  more = bad.more;
+  are = ap (λ (l : List (List ℕ)). part ∷ l) bad.are;
+  count = ap (λ (n : ℕ). suc n) bad.count;
+  before = (is, bad.before);
+  bad = bad.bad;
+}
+
+-- parts are all requests, or one is the first that is none
+parts_have_an_answer : (parts : List (List ℕ)) → ((messages : List Message) → AreRequests parts messages → ⊥) → ((index : ℕ) → FirstBad parts index → ⊥) → ⊥
+parts_have_an_answer [] no_requests no_bad = no_requests [] tt
+parts_have_an_answer (part ∷ parts) no_requests no_bad = by_later (parts_have_an_answer parts)
+  where
+    by_later : (((messages : List Message) → AreRequests parts messages → ⊥) → ((index : ℕ) → FirstBad parts index → ⊥) → ⊥) → ⊥
+    by_later later =
+        no_bad 0 (record {
+          front = [];
+          messages = [];
+          part = part;
+          more = parts;
+          are = refl;
+          count = refl;
+          before = tt;
+          bad = λ message is. later (λ messages are. no_requests (message ∷ messages) (is, are)) (λ index bad. no_bad (suc index) (behind_one part message parts index is bad));
+        })
+
+pub a_batch_has_some_answer : (boundary bytes : List ℕ) → ((answer : Answer) → IsBatchAnswer boundary bytes answer → ⊥) → ⊥
+a_batch_has_some_answer boundary bytes none = by_cut (requests_of boundary bytes) refl
+  where
+    by_cut : (r : Result (List (List ℕ)) ℕ) → requests_of boundary bytes ≡ r → ⊥
+    by_cut (Ok parts) e =
+        parts_have_an_answer parts (λ messages are. none (Ok messages) (record { parts = parts; cut = e; read = are })) (λ index bad. none (Err (BadPart index)) (tt, (parts, e, bad)))
+    by_cut (Err at) e = none (Err (BadMultipart at)) (tt, e)

@@ -3,6 +3,7 @@ mod BatchLemmas
 mod Exits
 mod LineLemmas
 mod PieceLemmas
-mod ReplyLemmas
+pub mod ReplyLemmas
+pub mod PlainLemmas
 mod RequestLemmas
 mod SectionLemmas

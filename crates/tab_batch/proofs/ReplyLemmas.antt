@@ -18,7 +18,7 @@ use Rattle.tab_batch.specs.declared.marks.Mark.TheVariants.{Delimiter}
 
 -- ---- the lines of a reply
 
-all_of_both : {X : Type 0} (P : X → Type 0) (xs ys : List X) → AllByRecursion P xs → AllByRecursion P ys → AllByRecursion P (xs ++ ys)
+pub all_of_both : {X : Type 0} (P : X → Type 0) (xs ys : List X) → AllByRecursion P xs → AllByRecursion P ys → AllByRecursion P (xs ++ ys)
 all_of_both P [] ys p q = q
 all_of_both P (x ∷ xs) ys p q = (p.0, all_of_both P xs ys p.1 q)
 

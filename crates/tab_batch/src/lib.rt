@@ -16,7 +16,7 @@ mod sections;
 
 pub use batches::read_batch;
 pub use boundaries::boundary_of;
-pub use laws::{a_batch_has_one_answer, replies_are_read_again};
+pub use laws::{a_batch_has_one_answer, a_batch_has_some_answer, replies_are_read_again};
 pub use refusals::{BatchRefused, Memory};
 pub use replies::write_batch;
 

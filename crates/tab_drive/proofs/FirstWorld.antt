@@ -1,12 +1,13 @@
 -- What every history over the first world gives.
 use Rattle.std.proofs.Common.{List, arith}
 use Rattle.tab_history.specs.World.{IsWorld}
-use Rattle.tab_history.specs.Kept.{HasTablesBelow}
+use Rattle.tab_history.specs.Kept.{IsBelow, HasTablesBelow}
 use Rattle.tab_history.specs.Legality.{Legal}
 use Rattle.tab_history.specs.Followed.{FollowedWell, FollowedStill}
 use Rattle.tab_history.specs.Ticks.{TicksRise, TicksTellRows}
 use Rattle.tab_history.specs.Numbers.{NumbersRise, MadeNew, DropsHide}
 use Rattle.tab_history.specs.declared.entries.Entry.{Entry}
+use Rattle.tab_history.proofs.DoubtLaws.{no_doubts}
 use Rattle.tab_history.proofs.FollowedLaws.{followed_well}
 use Rattle.tab_history.proofs.StillLaws.{followed_still}
 use Rattle.tab_history.proofs.TickLaws.{ticks_rise, ticks_tell_rows}
@@ -24,7 +25,7 @@ is_world = record {
 }
 
 tables_below : HasTablesBelow first_state
-tables_below = λ k d within. absurd (omega (arith, within))
+tables_below = (λ k d within. absurd (omega (arith, within)), no_doubts (IsBelow 1))
 
 pub gives_followed : (history : List Entry) → Legal first_state history → FollowedWell first_state history
 gives_followed history legal = followed_well first_state history is_world legal

@@ -2,6 +2,7 @@
 use Rattle.std.proofs.Common.{◌≡◌, ℕ, ◌+◌, ◌<◌, ◌≤◌, List, [], ◌∷◌, length, arith, subst, Bool, true, false, Option, Some, None, Result, Ok, Err}
 use Rattle.std.specs.Prelude.{IfErr, if◌then◌else◌, nat_lt, ⊤}
 use Rattle.tab_edm.specs.Entities.{EntityView, entity_size}
+use Rattle.tab_edm.specs.declared.entities.TheConstants.{MOST_PROPERTIES, MOST_SIZE}
 use Rattle.tab_rows.specs.Rows.{RowView, row_at}
 use Rattle.tab_ops.specs.Groups.{ItemView, item_key}
 use Rattle.tab_keys.specs.Results.{◌>>=◌}
@@ -29,8 +30,8 @@ either_below P false a b x y = y
 
 limits_below : (index count : ℕ) (entity : EntityView) → index < count → IfErr (within_limits index entity) (IsBelow count)
 limits_below index count entity below =
-    either_below (IsBelow count) (nat_lt 252 (length entity.properties)) _ _ below
-    (either_below (IsBelow count) (nat_lt 1_048_576 (entity_size entity.pk_units entity.rk_units entity.properties)) _ _ below tt)
+    either_below (IsBelow count) (nat_lt MOST_PROPERTIES (length entity.properties)) _ _ below
+    (either_below (IsBelow count) (nat_lt MOST_SIZE (entity_size entity.pk_units entity.rk_units entity.properties)) _ _ below tt)
 
 merge_below : (index count : ℕ) (kept given : EntityView) → index < count → IfErr (merge_outcome index kept given) (IsBelow count)
 unfolding merge_outcome

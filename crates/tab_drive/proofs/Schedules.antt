@@ -9,9 +9,10 @@ use Rattle.std.proofs.lemmas.List.Elements.{All-cons, All-nil}
 use Rattle.tab_keys.specs.Order.{bound_lt}
 use Rattle.tab_keys.specs.declared.bounds.Bound.TheVariants.{At, End}
 use Rattle.tab_auth.specs.declared.signatures.Keys.{Keys}
-use Rattle.tab_history.specs.Legality.{State, Legal, after_all}
+use Rattle.tab_history.specs.Legality.{State, EachAllowed, Legal, after_all}
 use Rattle.tab_history.specs.declared.entries.Entry.{Entry}
-use Rattle.tab_history.proofs.HistoryLaws.{after_all-append, Legal-append}
+use Rattle.tab_history.proofs.DoubtLaws.{none_open}
+use Rattle.tab_history.proofs.HistoryLaws.{after_all-append, Legal-more}
 use Rattle.tab_drive.specs.Schedule.{spelling, end_line}
 use Rattle.tab_drive.specs.RunStates.{RunState, Exchange, opened_state, first_state, opening, Follows, state_after, state_after_all, bytes_of, entries_of, text_of}
 use Rattle.tab_drive.specs.Sessions.{Keeps}
@@ -83,8 +84,8 @@ legal_push : (keys : Keys) (moment : ℕ) (xs : List Exchange) (x : Exchange) (o
     → Exchanged keys (state_after_all (opened_state moment) xs) x old new → Legal first_state new.history.items
 legal_push keys moment xs x old new before legal more =
     subst (λ (h : List Entry). Legal first_state h) (sym more.history)
-    (Legal-append first_state old.history.items x.entries legal
-    (subst (λ (s : State). Legal s x.entries) (past_is moment xs ∙ ap (λ (h : List Entry). after_all first_state h) (sym before)) more.legal))
+    (Legal-more first_state old.history.items x.entries legal
+    (subst (λ (s : State). EachAllowed s x.entries) (past_is moment xs ∙ ap (λ (h : List Entry). after_all first_state h) (sym before)) more.allowed))
 
 follows_push : (keys : Keys) (moment : ℕ) (xs : List Exchange) (x : Exchange) (old new : Session) → Follows keys (opened_state moment) xs
     → Exchanged keys (state_after_all (opened_state moment) xs) x old new → Follows keys (opened_state moment) (xs ++ x ∷ [])
@@ -187,7 +188,7 @@ going_first keys moment l t session keeps history = record {
   exchanges = [];
   follows = tt;
   history = history;
-  legal = subst (λ (h : List Entry). Legal first_state h) (sym history) ((refl, (λ i j d h k. absurd (omega arith)), All-cons (λ b. IsTrue (bound_lt b End)) (At 0 []) [] refl (All-nil (λ b. IsTrue (bound_lt b End)))), tt);
+  legal = subst (λ (h : List Entry). Legal first_state h) (sym history) (record { doubts = none_open first_state.world; steps = ((refl, (λ i j d h k. absurd (omega arith)), All-cons (λ b. IsTrue (bound_lt b End)) (At 0 []) [] refl (All-nil (λ b. IsTrue (bound_lt b End)))), tt) });
   keeps = keeps;
   read = nothing_read l;
   written = nothing_written t;

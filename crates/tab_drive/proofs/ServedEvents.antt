@@ -17,7 +17,7 @@ use Rattle.tab_drive.proofs.Told.{told_front}
 exchanged : (keys : Keys) (state : RunState) (event : Scheduled) (text : List ℕ) (old new : Session) → Fits event → state.number < last_number → (stepped : Stepped keys state event text old new)
     → Exchanged keys state (record { event = event; entries = stepped.entries; text = text }) old new
 exchanged keys state event text old new fits numbered stepped =
-    record { fits = fits; numbered = numbered; happens = stepped.happens; legal = stepped.legal; keeps = stepped.keeps; history = stepped.history }
+    record { fits = fits; numbered = numbered; happens = stepped.happens; allowed = stepped.allowed; keeps = stepped.keeps; history = stepped.history }
 
 -- a step whose text was written whole
 pub served : (keys : Keys) (state : RunState) (traffic : Traffic) (event : Scheduled) (text : List ℕ) (old new : Session) → Fits event → state.number < last_number

@@ -177,7 +177,7 @@ replied_steps keys message state old new request text keeps comes replied =
         replies = added.replies;
         written = replied.written;
       });
-      legal = added.legal;
+      allowed = added.allowed;
       keeps = record {
         moment = replied.moment ∙ keeps.moment;
         number = replied.number ∙ ap (λ (n : ℕ). n + 1) keeps.number;
@@ -197,12 +197,12 @@ unfolding state_after
 moved_steps keys state old new moment keeps at number held history = record {
   entries = [];
   happens = (refl, refl);
-  legal = tt;
+  allowed = tt;
   keeps = record {
     moment = at;
     number = number ∙ ap (λ (n : ℕ). n + 1) keeps.number;
     held = held ∙ keeps.held;
-    serving = record { floors = keeps.serving.floors; bounds = keeps.serving.bounds };
+    serving = record { floors = keeps.serving.floors; bounds = keeps.serving.bounds; settled = keeps.serving.settled };
   };
   history = history ∙ sym (append-nil old.history.items);
 }
@@ -214,12 +214,12 @@ unfolding state_after
 refused_steps keys message reply text state old new keeps comes written refused = record {
   entries = [];
   happens = inr (record { reply = reply; comes = comes; none = refl; written = written });
-  legal = tt;
+  allowed = tt;
   keeps = record {
     moment = refused.moment ∙ keeps.moment;
     number = refused.number ∙ ap (λ (n : ℕ). n + 1) keeps.number;
     held = refused.held ∙ keeps.held;
-    serving = record { floors = keeps.serving.floors; bounds = keeps.serving.bounds };
+    serving = record { floors = keeps.serving.floors; bounds = keeps.serving.bounds; settled = keeps.serving.settled };
   };
   history = refused.history ∙ sym (append-nil old.history.items);
 }

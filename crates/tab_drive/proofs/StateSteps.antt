@@ -11,13 +11,16 @@ use Rattle.tab_ops.specs.declared.groups.OpRefused.{OpRefused}
 use Rattle.tab_ops.specs.declared.plans.Changes.{Changes}
 use Rattle.tab_ops.proofs.GroupLaws.{refused_at_any_tick}
 use Rattle.tab_history.specs.World.{table_of, floor_of, raised, IsNextTick, MayHaveTick}
-use Rattle.tab_history.specs.Legality.{Legal, after_all}
+use Rattle.tab_history.specs.Doubts.{SparesKeys, SparesPage, SparesNames, EachDoubt}
+use Rattle.tab_history.specs.Legality.{EachAllowed, after_all}
 use Rattle.tab_history.specs.declared.entries.Entry.{Entry}
 use Rattle.tab_history.specs.declared.entries.Entry.TheVariants as entry
 use Rattle.tab_history.specs.declared.entries.Denied.TheVariants as denied
+use Rattle.tab_history.specs.declared.entries.Doubt.{Doubt}
 use Rattle.tab_history.specs.declared.asks.Ask.{Ask}
 use Rattle.tab_history.specs.declared.asks.Ask.TheVariants as ask
 use Rattle.tab_history.specs.declared.asks.Reply.TheVariants as reply
+use Rattle.tab_history.proofs.DoubtLaws.{no_doubts}
 use Rattle.tab_history.proofs.ChangeLaws.{may_have_next, next_tick-raised, table_for-first}
 use Rattle.tab_page.specs.Pages.{page_of, page_below, start_key}
 use Rattle.tab_page.proofs.PageLaws.{end_above-first}
@@ -45,10 +48,11 @@ pub record Adds (state : RunState) (what : Ask) (decided : StoreAnswer) (entries
   pub answers : IsAnswer state what answer
   pub takes : Takes state what answer entries
   pub replies : reply_of answer ≡ Some decided.reply
-  pub legal : Legal state.past entries
+  pub allowed : EachAllowed state.past entries
   pub held : held_after state entries ≡ held_then (held_in state) decided.effect
   pub floors : IsNextTick (after_all state.past entries).world.floors (next_tick_after state.next_tick entries)
   pub bounds : (after_all state.past entries).bounds ≡ At 0 [] ∷ []
+  pub settled : (after_all state.past entries).doubts ≡ []
 
 -- the same, of the entries that this look-up and the reply give
 abbrev AddsBy : RunState → Ask → Option LookUp → StoreAnswer → Type 0
@@ -63,7 +67,12 @@ unfolding opened_state floor_of
 first_serving moment = record {
   floors = record { above = λ key. omega arith; reached = inl refl };
   bounds = refl;
+  settled = refl;
 }
+
+-- nothing is in doubt in a store that is served
+nothing : (P : Doubt → Type 0) (state : RunState) → IsServing state → EachDoubt P state.past.doubts
+nothing P state serving = subst (λ (doubts : List (ℕ × Doubt)). EachDoubt P doubts) (sym serving.settled) (no_doubts P)
 
 -- ---- commands on tables
 
@@ -74,10 +83,11 @@ adds_created state name serving absent numbered = record {
   answers = (refl, refl, numbered);
   takes = inr (tt, refl);
   replies = refl;
-  legal = ((absent, refl), tt);
+  allowed = ((absent, refl, nothing SparesNames state serving), tt);
   held = refl;
   floors = serving.floors;
   bounds = serving.bounds;
+  settled = serving.settled;
 }
 
 adds_there : (state : RunState) (name : List ℕ) → IsServing state → is_some (table_of state.past.world.names name) ≡ true → AddsBy state (ask.Create name) None (denial denied.TableThere)
@@ -86,10 +96,11 @@ adds_there state name serving there = record {
   answers = (refl, refl, tt);
   takes = inr (tt, refl);
   replies = refl;
-  legal = (there, tt);
+  allowed = ((there, nothing SparesNames state serving), tt);
   held = refl;
   floors = serving.floors;
   bounds = serving.bounds;
+  settled = serving.settled;
 }
 
 adds_numbers_spent : (state : RunState) (name : List ℕ) → IsServing state → table_of state.past.world.names name ≡ None → last_number ≤ state.past.world.next_table
@@ -99,10 +110,11 @@ adds_numbers_spent state name serving absent spent = record {
   answers = (refl, (absent, spent));
   takes = inr (tt, refl);
   replies = refl;
-  legal = (tt, tt);
+  allowed = (tt, tt);
   held = refl;
   floors = serving.floors;
   bounds = serving.bounds;
+  settled = serving.settled;
 }
 
 adds_dropped : (state : RunState) (name : List ℕ) → IsServing state → is_some (table_of state.past.world.names name) ≡ true
@@ -112,10 +124,11 @@ adds_dropped state name serving there = record {
   answers = (refl, refl);
   takes = inr (tt, refl);
   replies = refl;
-  legal = (sym there, tt);
+  allowed = ((sym there, nothing SparesNames state serving), tt);
   held = refl;
   floors = serving.floors;
   bounds = serving.bounds;
+  settled = serving.settled;
 }
 
 adds_none : (state : RunState) (name : List ℕ) → IsServing state → is_some (table_of state.past.world.names name) ≡ false → AddsBy state (ask.Drop name) None (denial denied.NoTable)
@@ -124,10 +137,11 @@ adds_none state name serving absent = record {
   answers = (refl, refl);
   takes = inr (tt, refl);
   replies = refl;
-  legal = (sym absent, tt);
+  allowed = ((sym absent, nothing SparesNames state serving), tt);
   held = refl;
   floors = serving.floors;
   bounds = serving.bounds;
+  settled = serving.settled;
 }
 
 adds_names : (state : RunState) (after : Option (List ℕ)) (top : ℕ) (decided : StoreAnswer) → IsServing state
@@ -138,10 +152,11 @@ adds_names state after top decided serving is =
       answers = (refl, refl, refl);
       takes = inr (tt, refl);
       replies = refl;
-      legal = ((refl, refl), tt);
+      allowed = ((refl, refl, nothing SparesNames state serving), tt);
       held = refl;
       floors = serving.floors;
       bounds = serving.bounds;
+      settled = serving.settled;
     })
 
 -- no memory, for a command on tables
@@ -151,10 +166,11 @@ adds_alone state what serving answers = record {
   answers = answers;
   takes = inr (tt, refl);
   replies = refl;
-  legal = (tt, tt);
+  allowed = (tt, tt);
   held = refl;
   floors = serving.floors;
   bounds = serving.bounds;
+  settled = serving.settled;
 }
 
 -- ---- requests about the rows of a table
@@ -171,10 +187,11 @@ adds_missing state what name serving absent answers = record {
   answers = answers;
   takes = inr (tt, refl);
   replies = refl;
-  legal = (sym absent, tt);
+  allowed = ((sym absent, nothing SparesNames state serving), tt);
   held = refl;
   floors = serving.floors;
   bounds = serving.bounds;
+  settled = serving.settled;
 }
 
 -- that found one, where no memory was found behind it
@@ -185,10 +202,11 @@ adds_denied state what name table serving there named answers = record {
   answers = answers;
   takes = inl (record { name = name; named = named; table = table; behind = tt; entries_are = refl });
   replies = refl;
-  legal = (sym there, (tt, tt));
+  allowed = ((sym there, nothing SparesNames state serving), (tt, tt));
   held = refl;
   floors = serving.floors;
   bounds = serving.bounds;
+  settled = serving.settled;
 }
 
 -- a page of the one range goes on to the end of all keys
@@ -205,10 +223,17 @@ adds_page state name table options serving there = record {
   answers = (refl, refl);
   takes = inl (record { name = name; named = refl; table = table; behind = tt; entries_are = refl });
   replies = refl;
-  legal = (sym there, ((table_for-first state.past.tables state.number (Some table), sym (page_is state table options serving)), tt));
+  allowed = (
+    (sym there, nothing SparesNames state serving),
+    (
+      (table_for-first state.past.tables state.number (Some table), sym (page_is state table options serving), nothing (SparesPage (start_key table options) (page_below state.past.world.rows table options End).end) state serving),
+      tt,
+    ),
+  );
   held = refl;
   floors = serving.floors;
   bounds = serving.bounds;
+  settled = serving.settled;
 }
 
 -- the row at a key, or that there is none
@@ -219,20 +244,28 @@ adds_found state name table pk rk (Some row) serving there is = record {
   answers = (refl, refl, refl);
   takes = inl (record { name = name; named = refl; table = table; behind = tt; entries_are = refl });
   replies = refl;
-  legal = (sym there, ((table_for-first state.past.tables state.number (Some table), sym is), tt));
+  allowed = (
+    (sym there, nothing SparesNames state serving),
+    ((table_for-first state.past.tables state.number (Some table), sym is, nothing (SparesKeys (record { table = table; pk = pk; rk = rk } ∷ [])) state serving), tt),
+  );
   held = refl;
   floors = serving.floors;
   bounds = serving.bounds;
+  settled = serving.settled;
 }
 adds_found state name table pk rk None serving there is = record {
   answer = entry.Get state.number table pk rk None;
   answers = (refl, refl, refl);
   takes = inl (record { name = name; named = refl; table = table; behind = tt; entries_are = refl });
   replies = refl;
-  legal = (sym there, ((table_for-first state.past.tables state.number (Some table), sym is), tt));
+  allowed = (
+    (sym there, nothing SparesNames state serving),
+    ((table_for-first state.past.tables state.number (Some table), sym is, nothing (SparesKeys (record { table = table; pk = pk; rk = rk } ∷ [])) state serving), tt),
+  );
   held = refl;
   floors = serving.floors;
   bounds = serving.bounds;
+  settled = serving.settled;
 }
 
 no_empty_group : IsGroup [] → ⊥
@@ -270,10 +303,14 @@ adds_changes state group table tick made serving is_group there is in_time tick_
       answers = (refl, refl, refl, greatest, is);
       takes = inl (record { name = group_name group; named = refl; table = table; behind = tt; entries_are = refl });
       replies = refl;
-      legal = (sym there, ((table_for-first state.past.tables state.number (Some table), (applied state.past.world.rows made.list, outcome), may), tt));
+      allowed = (
+        (sym there, nothing SparesNames state serving),
+        ((table_for-first state.past.tables state.number (Some table), (applied state.past.world.rows made.list, outcome), may, nothing (SparesKeys (group_keys table group)) state serving), tt),
+      );
       held = rw (outcome, tick_is) refl;
       floors = floors_after state table tick group serving is_group is;
       bounds = serving.bounds;
+      settled = serving.settled;
     }
 
 -- a change that is refused
@@ -285,13 +322,21 @@ adds_refusal state group table refusal serving is_group there in_time outcome = 
   answers = (refl, refl, refl, in_time, tt);
   takes = inl (record { name = group_name group; named = refl; table = table; behind = tt; entries_are = refl });
   replies = refl;
-  legal = (
-    sym there,
-    ((table_for-first state.past.tables state.number (Some table), refused_at_any_tick state.past.world.rows table (max state.moment state.next_tick) 0 group refusal is_group.apart outcome), tt),
+  allowed = (
+    (sym there, nothing SparesNames state serving),
+    (
+      (
+        table_for-first state.past.tables state.number (Some table),
+        refused_at_any_tick state.past.world.rows table (max state.moment state.next_tick) 0 group refusal is_group.apart outcome,
+        nothing (SparesKeys (group_keys table group)) state serving,
+      ),
+      tt,
+    ),
   );
   held = refl;
   floors = serving.floors;
   bounds = serving.bounds;
+  settled = serving.settled;
 }
 
 -- a change for whose tick no moment is left
@@ -302,10 +347,11 @@ adds_spent state group table serving there spent = record {
   answers = (refl, spent);
   takes = inl (record { name = group_name group; named = refl; table = table; behind = tt; entries_are = refl });
   replies = refl;
-  legal = (sym there, (tt, tt));
+  allowed = ((sym there, nothing SparesNames state serving), (tt, tt));
   held = refl;
   floors = serving.floors;
   bounds = serving.bounds;
+  settled = serving.settled;
 }
 
 -- ---- each decided request
@@ -360,6 +406,7 @@ unfolding state_after
 serving_after state event what decided entries added = record {
   floors = added.floors;
   bounds = added.bounds;
+  settled = added.settled;
 }
 
 -- and holds what it was decided to hold then

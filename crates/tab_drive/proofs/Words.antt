@@ -1,8 +1,10 @@
 -- The three words of a command.
-use Rattle.std.proofs.Common.{◌≡◌, ℕ, ◌≤◌, ◌<◌, List, [], ◌∷◌, length, get_or, true, arith, sym, ap, ◌∙◌, Option, Some, None, Result, Ok, Err, IfOk}
-use Rattle.std.specs.Prelude.{codes, MatchOption}
+use Rattle.std.proofs.Common.{◌≡◌, ℕ, ◌≤◌, ◌<◌, List, [], ◌∷◌, length, get_or, Bool, true, false, refl, arith, sym, ap, ◌∙◌, Option, Some, None, Result, Ok, Err, IfOk}
+use Rattle.std.specs.Prelude.{codes, bytes_eq, if◌then◌else◌, option_map, IfErr, MatchOption}
+use Rattle.base64.specs.Engines.{standard}
+use Rattle.base64.specs.GeneralPurpose.{decoded_of}
 use Rattle.tab_auth.specs.declared.signatures.Keys.{Keys}
-use Rattle.tab_drive.specs.Commands.{is_account, key_of, IsNamed, IsDrive, IsNoCommand}
+use Rattle.tab_drive.specs.Commands.{is_account, key_of, IsNamed, IsDrive, IsNoCommand, NamesAccount, NamesKey}
 
 same_three : {A : Type 0} (a b c x y z : A) → x ≡ a → y ≡ b → z ≡ c → a ∷ b ∷ c ∷ [] ≡ x ∷ y ∷ z ∷ []
 same_three a b c x y z p q r = cc
@@ -52,3 +54,25 @@ pub named_found : {E : Type 0} (words : List (List ℕ)) (name word : List ℕ) 
     → IfOk found (λ keys. MatchOption keys (key_of word ≡ None) (IsNamed name word)) → IfOk found (λ keys. MatchOption keys (IsNoCommand words) (IsDrive words))
 named_found words name word (Ok keys) spelled allowed named = named_words words name word keys spelled allowed named
 named_found words name word (Err error) spelled allowed named = tt
+
+-- ---- a key that has to be read
+
+-- where such a look ends with no answer, the words name an account
+pub named_or_found : {E T : Type 0} (words : List (List ℕ)) (name word : List ℕ) (found : Result T E) → words ≡ codes "drive" ∷ name ∷ word ∷ [] → is_account name ≡ true
+    → IfErr found (λ _. NamesAccount words)
+named_or_found words name word (Ok found) spelled allowed = tt
+named_or_found words name word (Err error) spelled allowed = record { name = name; word = word; spelled = spelled; allowed = allowed }
+
+read_or_open : (words : List (List ℕ)) (named : NamesAccount words) → IsNoCommand words → (is_open : Bool) → bytes_eq named.word (codes "-") ≡ is_open → NamesKey words
+read_or_open words named none false is = record { named = named; is_read = is }
+read_or_open words named none true is = absurd (none (record { account = named.name; key = None }) (record {
+  name = named.name;
+  word = named.word;
+  spelled = named.spelled;
+  allowed = named.allowed;
+  named = record { account_is = refl; key_is = ap (λ it. if it then Some None else option_map (λ key. Some key) (decoded_of standard named.word)) is };
+}))
+
+-- where they are no command, that word was to be read as a key
+pub names_key : (words : List (List ℕ)) → NamesAccount words → IsNoCommand words → NamesKey words
+names_key words named none = read_or_open words named none (bytes_eq named.word (codes "-")) refl

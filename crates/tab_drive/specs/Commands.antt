@@ -42,6 +42,18 @@ pub record IsDrive (words : List (List ℕ)) (keys : Keys) : Type 0 where
 abbrev pub IsNoCommand : List (List ℕ) → Type 0
 IsNoCommand words = (keys : Keys) → IsDrive words keys → ⊥
 
+-- the words are `drive`, an account's name and a third word
+pub record NamesAccount (words : List (List ℕ)) : Type 0 where
+  pub name : List ℕ
+  pub word : List ℕ
+  pub spelled : words ≡ codes "drive" ∷ name ∷ word ∷ []
+  pub allowed : is_account name ≡ true
+
+-- the words are `drive`, an account's name and a word that has to be read as a key, since it is not `-`
+pub record NamesKey (words : List (List ℕ)) : Type 0 where
+  pub named : NamesAccount words
+  pub is_read : bytes_eq named.word (codes "-") ≡ false
+
 -- the exit status of a schedule that stopped so
 abbrev pub status_of : RunStop → ℕ
 status_of End = 0

@@ -127,13 +127,10 @@ AreNumbersSpent state _ = ⊥
 
 -- the reasons for which a request may be denied whatever the world is
 abbrev pub MayDeny : RunState → Ask → Denied → Type 0
-MayDeny state what denied.NoTable = ⊥
-MayDeny state what denied.TableThere = ⊥
-MayDeny state what denied.NotFound = ⊥
-MayDeny state what (denied.Op refusal) = ⊥
 MayDeny state what denied.TimeSpent = IsTimeSpent state what
 MayDeny state what denied.IdsSpent = AreNumbersSpent state what
 MayDeny state what denied.Memory = ⊤
+MayDeny state what _ = ⊥
 
 -- The entry answers the request, which has the number of the state. A request about the rows of a table that is not there is
 -- answered by its look-up. A change is answered only where a moment is left for its tick.
@@ -151,8 +148,6 @@ IsAnswer state what entry = ⊥
 
 -- the reply that an entry stands for
 abbrev pub reply_of : Entry → Option Reply
-reply_of (entry.Bounds bounds) = None
-reply_of (entry.Resolve ask name (Some table)) = None
 reply_of (entry.Resolve ask name None) = Some (reply.Denied denied.NoTable)
 reply_of (entry.Get ask table pk rk (Some row)) = Some (reply.Found row)
 reply_of (entry.Get ask table pk rk None) = Some (reply.Denied denied.NotFound)
@@ -165,21 +160,17 @@ reply_of (entry.Drop ask name true) = Some reply.Dropped
 reply_of (entry.Drop ask name false) = Some (reply.Denied denied.NoTable)
 reply_of (entry.List ask from top names next) = Some (reply.Tables names next)
 reply_of (entry.Denied ask why) = Some (reply.Denied why)
+reply_of _ = None
 
 -- an answer with no look-up before it: to a command on tables, that a look-up found no table, or that no memory was found
 abbrev pub StandsAlone : Entry → Type 0
-StandsAlone (entry.Bounds bounds) = ⊥
-StandsAlone (entry.Resolve ask name (Some table)) = ⊥
 StandsAlone (entry.Resolve ask name None) = ⊤
-StandsAlone (entry.Get ask table pk rk found) = ⊥
-StandsAlone (entry.Page ask table options page) = ⊥
-StandsAlone (entry.Change ask now table group result) = ⊥
 StandsAlone (entry.Create ask name table) = ⊤
 StandsAlone (entry.Drop ask name stood) = ⊤
 StandsAlone (entry.List ask from top names next) = ⊤
 StandsAlone (entry.Denied ask denied.IdsSpent) = ⊤
 StandsAlone (entry.Denied ask denied.Memory) = ⊤
-StandsAlone (entry.Denied ask _) = ⊥
+StandsAlone _ = ⊥
 
 -- an answer behind a look-up that found the table
 abbrev pub StandsBehind : Entry → Type 0

@@ -4,7 +4,7 @@ use Rattle.std.specs.Io.KnownBytes.{Consumes, Appends}
 use Rattle.tab_outside.specs.Faults.{Rose}
 use Rattle.tab_outside.specs.Transfers.{TookFront}
 use Rattle.tab_auth.specs.declared.signatures.Keys.{Keys}
-use Rattle.tab_history.specs.Legality.{Legal}
+use Rattle.tab_history.specs.Legality.{EachAllowed}
 use Rattle.tab_history.specs.declared.entries.Entry.{Entry}
 use Rattle.tab_drive.specs.Schedule.{spelling, Fits, end_line, IsNoEvent}
 use Rattle.tab_drive.specs.Reading.{IfTold, IsWithinOne}
@@ -33,7 +33,7 @@ pub record Exchanged (keys : Keys) (state : RunState) (exchange : Exchange) (old
   pub fits : Fits exchange.event
   pub numbered : state.number < last_number
   pub happens : Happens keys state exchange.event exchange.entries exchange.text
-  pub legal : Legal state.past exchange.entries
+  pub allowed : EachAllowed state.past exchange.entries
   pub keeps : Keeps new (state_after state exchange.event exchange.entries)
   pub history : new.history.items ≡ old.history.items ++ exchange.entries
 

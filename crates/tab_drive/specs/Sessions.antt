@@ -5,7 +5,7 @@ use Rattle.tab_auth.specs.declared.signatures.Keys.{Keys}
 use Rattle.tab_page.specs.declared.pages.Options.{Options}
 use Rattle.tab_ops.specs.Groups.{ItemView}
 use Rattle.tab_history.specs.World.{Named, table_of, IsNextTick}
-use Rattle.tab_history.specs.Legality.{Legal}
+use Rattle.tab_history.specs.Legality.{EachAllowed}
 use Rattle.tab_history.specs.declared.entries.Entry.{Entry}
 use Rattle.tab_history.specs.declared.entries.Entry.TheVariants as entry
 use Rattle.tab_history.specs.declared.entries.Denied.TheVariants as denied
@@ -35,6 +35,7 @@ held_in state = record {
 pub record IsServing (state : RunState) : Type 0 where
   pub floors : IsNextTick state.past.world.floors state.next_tick
   pub bounds : state.past.bounds ≡ At 0 [] ∷ []
+  pub settled : state.past.doubts ≡ []
 
 -- the session is in this state
 pub record Keeps (session : Session) (state : RunState) : Type 0 where
@@ -109,11 +110,11 @@ entries_for number moment held what reply = entries_by (look_up held.names what)
 
 -- ---- steps
 
--- the event happened: the history has its entries, which are legal, and the session is in the state after it
+-- the event happened: the history has its entries, of which each is allowed, and the session is in the state after it
 pub record Stepped (keys : Keys) (state : RunState) (event : Scheduled) (text : List ℕ) (old new : Session) : Type 0 where
   pub entries : List Entry
   pub happens : Happens keys state event entries text
-  pub legal : Legal state.past entries
+  pub allowed : EachAllowed state.past entries
   pub keeps : Keeps new (state_after state event entries)
   pub history : new.history.items ≡ old.history.items ++ entries
 

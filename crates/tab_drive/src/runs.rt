@@ -1,5 +1,5 @@
 //! The top call: one command over a source, a sink and a clock. A key is standard Base64 (RFC 4648, section 4).
-ghost use Rattle.std.specs.Prelude.{◌≡◌, ◌≢◌, ◌⊎◌, ◌<◌, ◌-◌, ◌^◌, ℕ, List, [], ◌≤◌, map, flat_map, string_bytes, Contains, MatchOption, IfOk, Some, None};
+ghost use Rattle.std.specs.Prelude.{◌≡◌, ◌≢◌, ◌⊎◌, ◌<◌, ◌-◌, ◌^◌, ℕ, List, [], ◌≤◌, map, flat_map, string_bytes, Contains, MatchOption, IfOk, IfErr, Some, None};
 ghost use Rattle.std.specs.List.{list_all};
 ghost use Rattle.tab_outside.specs.Faults.{Rose};
 ghost use Rattle.tab_auth.specs.declared.signatures.Keys.{Keys};
@@ -9,7 +9,7 @@ ghost use Rattle.tab_history.specs.Ticks.{TicksRise, TicksTellRows};
 ghost use Rattle.tab_history.specs.Numbers.{NumbersRise, MadeNew, DropsHide};
 ghost use Rattle.tab_drive.specs.RunStates.{first_state};
 ghost use Rattle.tab_drive.specs.Runs.{traffic, TookLine, usage_line, memory_line};
-ghost use Rattle.tab_drive.specs.Commands.{IsDrive, IsNoCommand, IsNamed, is_account, is_account_byte, key_of, status_of, line_of, Drives, SaidOnly, exit_statuses};
+ghost use Rattle.tab_drive.specs.Commands.{IsDrive, IsNoCommand, IsNamed, NamesAccount, NamesKey, is_account, is_account_byte, key_of, status_of, line_of, Drives, SaidOnly, exit_statuses};
 ghost use Rattle.tab_drive.specs.Completeness.{IsServable};
 
 use crate::outgoing::write_pieces;
@@ -75,9 +75,9 @@ pub fn run<S: Source, K: Sink, D: Disk, C: Clock>(
         → IsServable bytes → (Rose (S.faults input.old) (S.faults input.new) → ⊥) → (Rose (K.faults output.old) (K.faults output.new) → ⊥)
         → (result.status ≡ 0) ⊎ (result.status ≡ 7) }
 
-    // Other words are refused, if memory is found to read a key, and nothing is read.
+    // Other words are refused, and nothing is read. Only where a key had to be read may memory have been wanting.
     ensures words { result.status ≡ 1 → IsNoCommand (map string_bytes words.now) }
-    ensures refused { IsNoCommand (map string_bytes words.now) → (result.status ≡ 1) ⊎ ((result.status ≡ 7) × SaidOnly
+    ensures refused { IsNoCommand (map string_bytes words.now) → (result.status ≡ 1) ⊎ ((result.status ≡ 7) × NamesKey (map string_bytes words.now) × SaidOnly
         (traffic (S.left input.old) (S.left input.new) (K.taken output.old) (K.taken output.new))
         (K.faults output.old) (K.faults output.new) memory_line result.history result.done) }
     ensures usage { result.status ≡ 1 → SaidOnly
@@ -147,7 +147,8 @@ const OUT_OF_MEMORY: &[u8] = b"out of memory\n";
 
 /// The account and the key of the words `drive ACCOUNT KEY`.
 fn keys_of(alloc: Global, words: &[String]) -> Result<Option<Keys>, Memory>
-    ensures { IfOk result (λ keys. MatchOption keys (IsNoCommand (map string_bytes words.now)) (IsDrive (map string_bytes words.now))) }
+    ensures asked { IfErr result (λ _. NamesAccount (map string_bytes words.now)) }
+    ensures found { IfOk result (λ keys. MatchOption keys (IsNoCommand (map string_bytes words.now)) (IsDrive (map string_bytes words.now))) }
 {
     let [command, account, key] = words else {
         return Ok(None);

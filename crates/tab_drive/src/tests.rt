@@ -1,9 +1,7 @@
 //! What the talks of tab_talks cannot say: counts of events and entries, faults, sources and sinks of single bytes, and
-//! sizes that are generated.
+//! what is left in a source.
 
 mod copies;
 mod drivers;
 mod endings;
-mod groups;
-mod pages;
 mod readings;

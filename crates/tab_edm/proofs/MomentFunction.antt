@@ -4,7 +4,7 @@ use Rattle.std.proofs.lemmas.Bool.{and_parts, and_from, leb-true, le-leb, ltb-tr
 use Rattle.std.proofs.lemmas.Int.Digits.{digits_value_push}
 use Rattle.std.proofs.lemmas.Slice.Eq.{bytes_eq-Decides}
 use Rattle.std.proofs.lemmas.Str.{digit_value_digit}
-use Rattle.std.proofs.lemmas.Option.{none-some}
+use Rattle.std.proofs.lemmas.Option.{none-some, same_Some}
 use Rattle.std.proofs.lemmas.List.{drop-take, take-take, drop-drop, take_rest}
 use Rattle.std.proofs.Math.Nat.{pow-suc}
 use Rattle.std.specs.Str.Parse.{digits_value}
@@ -162,13 +162,10 @@ moment_given text tick s =
     ap (λ (p : MomentParts). moment_by p text) (parts_are text (spelled_parts text tick s) (has_parts text tick s))
     ∙ by_parts (spelled_parts text tick s) text tick (real_parts text tick s) (sym s.text_is) s.tick_is
 
-some_same : {m n : ℕ} → Some m ≡ Some n → m ≡ n
-some_same e = cc
-
 found_by : (p : MomentParts) (text : List ℕ) (tick : ℕ) (test : Bool) → are_real_parts p && bytes_eq (text_of_parts p) text ≡ test → cond test (Some (tick_of_parts p)) None ≡ Some tick → IsMoment text tick
 found_by p text tick true e is =
     let parts : (are_real_parts p ≡ true) × (bytes_eq (text_of_parts p) text ≡ true) = and_parts _ _ e in
-    subst (IsMoment text) (some_same is) (spelled_from text p parts.0 ((bytes_eq-Decides (text_of_parts p) text).0 parts.1))
+    subst (IsMoment text) (same_Some _ _ is) (spelled_from text p parts.0 ((bytes_eq-Decides (text_of_parts p) text).0 parts.1))
 found_by p text tick false e is = absurd (none-some tick is)
 
 pub moment_found : (text : List ℕ) (tick : ℕ) → moment_of text ≡ Some tick → IsMoment text tick

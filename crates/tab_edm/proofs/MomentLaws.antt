@@ -1,6 +1,7 @@
 -- A text gives one moment, and each moment is read back from its text.
 use Rattle.std.proofs.Common.{◌≡◌, ℕ, zero, suc, ◌+◌, ◌*◌, ◌/◌, ◌%◌, ◌^◌, ◌<◌, ◌≤◌, List, ◌++◌, length, Option, Some, None, ◌↔◌, refl, sym, ap, subst, ◌∙◌, arith, append_assoc, length-append}
 use Rattle.std.proofs.lemmas.List.{append_cancel_left, append_cancel_right}
+use Rattle.std.proofs.lemmas.Option.{same_Some}
 use Rattle.std.proofs.Math.Nat.{mul-one}
 use Rattle.std.specs.Option.{MatchOption, IfSome}
 use Rattle.std.specs.Prelude.{codes}
@@ -124,10 +125,7 @@ full_is_written colon text t s long =
 pub exactly : (colon text : List ℕ) (o : Option ℕ) → MatchOption o ((t : ℕ) → Spells colon text t → ⊥) (Spells colon text) → (t : ℕ) → (o ≡ Some t) ↔ Spells colon text t
 exactly colon text None h t = (λ e. cc, λ s. absurd (h t s))
 exactly colon text (Some u) h t =
-    (λ e. subst (Spells colon text) (some_same e) h, λ s. ap Some (one_moment colon text u t h s))
-  where
-    some_same : {x y : ℕ} → Some x ≡ Some y → x ≡ y
-    some_same e = cc
+    (λ e. subst (Spells colon text) (same_Some _ _ e) h, λ s. ap Some (one_moment colon text u t h s))
 
 pub in_time : (colon text : List ℕ) (o : Option ℕ) → MatchOption o ((t : ℕ) → Spells colon text t → ⊥) (Spells colon text) → IfSome o (λ t. t ≤ 2_650_467_743_999_999_999)
 in_time colon text None h = tt

@@ -14,10 +14,10 @@ use std::alloc::Global;
 use std::marker::Model;
 
 /// The most properties of an entity, beside its keys and its timestamp.
-const MOST_PROPERTIES: usize = 252;
+pub const MOST_PROPERTIES: usize = 252;
 
 /// The most bytes that an entity counts for.
-const MOST_SIZE: u128 = 1_048_576;
+pub const MOST_SIZE: u128 = 1_048_576;
 
 /// Why properties make no entity.
 #[derive(Debug, Drop)]

@@ -6,11 +6,11 @@ mod moments;
 mod texts;
 mod values;
 
-pub use entities::{EdmRefused, Entity};
+pub use entities::{EdmRefused, Entity, MOST_PROPERTIES, MOST_SIZE};
 pub use moments::{etag_text, moment_text, read_etag, read_moment};
 use std::alloc::{AllocError, AllocFailed};
-pub use texts::{BytesValue, TextValue};
-pub use values::{Property, Value};
+pub use texts::{BytesValue, TextValue, char_count, unit_count};
+pub use values::{Property, Value, is_identifier};
 
 /// A refusal by want of memory.
 #[derive(Clone, Copy, Debug, PartialEq, Eq)]

@@ -144,7 +144,7 @@ pub enum PropertyFault {
 }
 
 /// Whether a name is an identifier of Unicode Standard Annex 31, or begins with `_` and goes on as one.
-fn is_identifier(name: &str) -> bool
+pub fn is_identifier(name: &str) -> bool
     ensures { result ≡ is_valid_name name.now }
 {
     let mut chars = name.chars();

@@ -47,7 +47,7 @@ operation_complete most used name o b value s r gap l e h =
     rw (operator_complete o (blank b (s ++ r)), room_complete most used (blank b (s ++ r)) h, gap_complete b (s ++ r) gap (literal_no_space value s r l), literal_complete value s r l e) refl
 
 -- one of a property named `not`, behind that name
-letters_read : (o : Operator) (b : ℕ) (r : List ℕ) → 0 < b → NameRead (letters o) (blank b r)
+pub letters_read : (o : Operator) (b : ℕ) (r : List ℕ) → 0 < b → NameRead (letters o) (blank b r)
 letters_read o b r h = name_read (letters o) (blank b r) (letters_are_name o) (ends_name-blank b r h)
 
 sole_complete : (a : ℕ) (o : Operator) (b : ℕ) (value : Value) (s r : List ℕ) → 0 < a → 0 < b → IsLiteral value s → sole_operator (blank a (operator_text o (blank b (s ++ r)))) ≡ Some (o, s ++ r)
@@ -116,11 +116,11 @@ unfolding any_at
 one_any c most n d zero used r left few p = absurd (let h = some_comparison c in omega arith)
 one_any c most n d (suc m) used r left few p = rw p refl
 
-no_and : Neither ≡ And → ⊥
-no_and e = cc
+pub neither_no_and : Neither ≡ And → ⊥
+neither_no_and e = cc
 
-no_and_or : Or ≡ And → ⊥
-no_and_or e = cc
+pub or_no_and : Or ≡ And → ⊥
+or_no_and e = cc
 
 -- ---- comparisons
 comparing_second : (most n d used : ℕ) (name : List ℕ) (a : ℕ) (o : Operator) (b : ℕ) (value : Value) (s r : List ℕ) → IsName name → 0 < a → 0 < b → IsLiteral value s → ends_token r ≡ true → suc used ≤ most → second_at most (inner_at most n d) used (name ++ blank a (operator_text o (blank b (s ++ r)))) ≡ negated (Ok (compared name o value used, r))
@@ -212,7 +212,7 @@ parted_any first a b second most n d (suc m) used r left law next f nests few ro
     let tail = blank a (111 ∷ 114 ∷ blank b rest) in
     let begins = text_begins disjunction second r f.3 in
     let sum : used + comparisons first + comparisons second ≡ used + (comparisons first + comparisons second) = omega arith in
-    rw (law.all most n d n used tail (blank b rest) Or f.2 nests.0 (omega arith) room (omega arith) (follows_gap (closes first) a (111 ∷ 114 ∷ blank b rest) f.0) (or_complete (closes first) a (blank b rest) f.0) no_and_or, edge_complete (opens second) b rest f.1 begins.opening begins.no_space, next.any most n d m (used + comparisons first) r left f.3 nests.1 (omega arith) room (omega arith) follows j)
+    rw (law.all most n d n used tail (blank b rest) Or f.2 nests.0 (omega arith) room (omega arith) (follows_gap (closes first) a (111 ∷ 114 ∷ blank b rest) f.0) (or_complete (closes first) a (blank b rest) f.0) or_no_and, edge_complete (opens second) b rest f.1 begins.opening begins.no_space, next.any most n d m (used + comparisons first) r left f.3 nests.1 (omega arith) room (omega arith) follows j)
     (ap (λ (k : ℕ). any_done (record { tree = Either (tree_at first) (tree_at second); used = k }, left)) sum)
 
 -- ---- all phrases
@@ -227,7 +227,7 @@ unary_laws c part second from_all from_any = record {
   all = λ most n d m used r left joint f nests few room short follows j other.
       one_all c most n d m used r left joint short (part most n d used r (from_all f) nests few room follows) j other;
   any = λ most n d m used r left f nests few room short follows j.
-      one_any c most n d m used r left short (one_all c most n d n used r left Neither (omega arith) (part most n d used r (from_any f) nests few room follows) j no_and);
+      one_any c most n d m used r left short (one_all c most n d n used r left Neither (omega arith) (part most n d used r (from_any f) nests few room follows) j neither_no_and);
 }
 
 one_more : (used : ℕ) → suc used ≡ used + 1
@@ -259,7 +259,7 @@ complete (Joined first a b second) =
       second = λ most n d used r f. absurd f;
       all = λ most n d m used r left joint f nests few room short follows j other. joined_all first a b second most n d m used r left joint law next f nests few room short follows j other;
       any = λ most n d m used r left f nests few room short follows j.
-          one_any (Joined first a b second) most n d m used r left short (joined_all first a b second most n d n used r left Neither law next f nests few room (omega arith) follows j no_and);
+          one_any (Joined first a b second) most n d m used r left short (joined_all first a b second most n d n used r left Neither law next f nests few room (omega arith) follows j neither_no_and);
     }
 complete (Parted first a b second) =
     let law = complete first in

@@ -256,7 +256,7 @@ answers_only text cs (Err (refusals.BadLiteral at)) h tree s = absurd (err_is_no
 answers_only text cs (Err refusals.TooManyComparisons) h tree s = absurd (err_is_none text refusals.TooManyComparisons tree (filter_at cs) (filter_complete cs tree s) h)
 
 -- the offset of what is left, by what is before it
-offset_is : (text front left : List ℕ) → IsUtf8 text → chars text ≡ front ++ left → offset_of text left ≡ length (encode_utf8_all front)
+pub offset_is : (text front left : List ℕ) → IsUtf8 text → chars text ≡ front ++ left → offset_of text left ≡ length (encode_utf8_all front)
 offset_is text front left utf8 is =
     let bytes : text ≡ encode_utf8_all front ++ encode_utf8_all left = sym (encodes-chars text utf8) ∙ ap encode_utf8_all is ∙ encodes-append front left in
     omega (arith, ap length bytes, length-append (encode_utf8_all front) (encode_utf8_all left))

@@ -2,7 +2,7 @@
 use Rattle.std.proofs.Common.{◌≡◌, ℕ, zero, suc, ◌<◌, ◌≤◌, List, [], ◌∷◌, ◌++◌, length, Bool, true, false, cond, not, ◌||◌, ◌==◌, Some, Ok, refl, ap, sym, ◌∙◌, arith, lit≤}
 use Rattle.std.specs.Prelude.{codes}
 use Rattle.std.specs.List.{list_all}
-use Rattle.std.proofs.lemmas.Bool.{and_parts, and_from, true≢false}
+use Rattle.std.proofs.lemmas.Bool.{and_parts, and_from, not-true, true≢false}
 use Rattle.std.proofs.lemmas.Bool.Decides.{Decides-eqb}
 use Rattle.std.proofs.lemmas.Slice.Eq.{bytes_eq-Decides}
 use Rattle.tab_filter.specs.declared.trees.Operator.{Operator}
@@ -42,16 +42,12 @@ abbrev pub ends_name : List ℕ → Bool
 ends_name [] = true
 ends_name (b ∷ bs) = not (continues b)
 
-not_false : (b : Bool) → not b ≡ true → b ≡ false
-not_false true h = sym h
-not_false false h = refl
-
 fronts : (n : ℕ) (w r : List ℕ) → list_all continues w ≡ true → length w ≤ n → ends_name r ≡ true → (name_front n (w ++ r) ≡ w) × (name_behind n (w ++ r) ≡ r)
 unfolding name_front name_behind
 fronts zero [] r h short e = (refl, refl)
 fronts zero (c ∷ cs) r h short e = absurd (omega arith)
 fronts (suc n) [] [] h short e = (refl, refl)
-fronts (suc n) [] (b ∷ bs) h short e = rw (not_false (continues b) e) (refl, refl)
+fronts (suc n) [] (b ∷ bs) h short e = rw (not-true (continues b) e) (refl, refl)
 fronts (suc n) (c ∷ cs) r h short e =
     let parts = and_parts (continues c) (list_all continues cs) h in
     let rest = fronts n cs r parts.1 (omega arith) e in

@@ -16,4 +16,7 @@ pub mod Same
 pub mod SameLexer
 pub mod SameParser
 pub mod FilterLaws
+pub mod Quiet
+pub mod LimitParts
+pub mod LimitLaws
 pub mod WindowEdges

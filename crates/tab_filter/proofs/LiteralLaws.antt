@@ -1,9 +1,10 @@
 -- Literals are read where they stand.
-use Rattle.std.proofs.Common.{◌≡◌, ℕ, ◌+◌, ◌-◌, ◌*◌, ◌≤◌, List, [], ◌∷◌, ◌++◌, Bool, true, false, cond, not, ◌&&◌, ◌||◌, ◌==◌, Option, Some, None, Ok, refl, ap, sym, subst, ◌∙◌, arith, append_assoc}
+use Rattle.std.proofs.Common.{◌≡◌, ℕ, ◌+◌, ◌-◌, ◌*◌, ◌≤◌, List, [], ◌∷◌, ◌++◌, Bool, true, false, cond, not, ◌&&◌, ◌||◌, ◌==◌, Option, Some, Ok, refl, ap, sym, subst, ◌∙◌, arith, append_assoc}
 use Rattle.std.specs.Prelude.{codes, nat_lt, encode_utf8, encode_utf8_all, option_map}
 use Rattle.std.specs.List.{list_all}
-use Rattle.std.proofs.lemmas.Bool.{and_parts, and_from, le-leb, ltb-true, true≢false}
+use Rattle.std.proofs.lemmas.Bool.{and_parts, and_from, le-leb, ltb-true, not-true, true≢false}
 use Rattle.std.proofs.lemmas.Bool.Decides.{Decides-eqb}
+use Rattle.std.proofs.lemmas.Option.{none-some}
 use Rattle.uuid.specs.Text.{parsed}
 use Rattle.tab_edm.specs.declared.values.Value.{Value}
 use Rattle.tab_edm.specs.declared.values.Value.TheVariants.{Text, Flag, Moment, Guid, Bytes}
@@ -21,14 +22,10 @@ abbrev pub ends : (ℕ → Bool) → List ℕ → Bool
 ends p [] = true
 ends p (b ∷ bs) = not (p b)
 
-not_false : (b : Bool) → not b ≡ true → b ≡ false
-not_false true h = sym h
-not_false false h = refl
-
 pub front_complete : (p : ℕ → Bool) (w r : List ℕ) → list_all p w ≡ true → ends p r ≡ true → (front_of p (w ++ r) ≡ w) × (behind p (w ++ r) ≡ r)
 unfolding front_of behind
 front_complete p [] [] h e = (refl, refl)
-front_complete p [] (b ∷ bs) h e = rw (not_false (p b) e) (refl, refl)
+front_complete p [] (b ∷ bs) h e = rw (not-true (p b) e) (refl, refl)
 front_complete p (c ∷ cs) r h e =
     let parts = and_parts (p c) (list_all p cs) h in
     let rest = front_complete p cs r parts.1 e in
@@ -89,11 +86,8 @@ unfolding integer_of
 integer_small minus n long value e =
     elim (fits_64 minus n) as (λ v. fits_64 minus n ≡ v → n ≤ greatest) [
       | true ↦ λ f. fits_small minus n f
-      | false ↦ λ f. absurd (let g = rw f at e in none_is_some g)
+      | false ↦ λ f. absurd (let g = rw f at e in none-some value g)
     ] refl
-  where
-    none_is_some : None ≡ Some value → ⊥
-    none_is_some g = cc
 
 digits_complete : (minus : Bool) (n : ℕ) (ds : List ℕ) (long : Bool) → list_all is_digit ds ≡ true → number_behind n ds ≤ greatest → digits_value minus n (ds ++ long_mark long) ≡ integer_of minus (number_behind n ds) long
 unfolding digits_value

@@ -4,6 +4,7 @@ use Rattle.std.specs.Prelude.{codes, bytes_eq, encode_utf8, encode_utf8_all, opt
 use Rattle.std.specs.List.{list_all}
 use Rattle.std.proofs.lemmas.Bool.{and_from, and_parts, true≢false}
 use Rattle.std.proofs.lemmas.Bool.Decides.{Decides-eqb}
+use Rattle.std.proofs.lemmas.Option.{none-some, same_Some}
 use Rattle.std.proofs.lemmas.Slice.Eq.{bytes_eq-Decides}
 use Rattle.uuid.specs.Text.{parsed}
 use Rattle.tab_edm.specs.declared.values.Value.{Value}
@@ -46,10 +47,7 @@ record Digits (minus : Bool) (n : ℕ) (text : List ℕ) (value : Value) : Type 
 long_found : (minus : Bool) (n c : ℕ) (cs : List ℕ) (value : Value) → (c == 76) ≡ true → long_at_end minus n cs ≡ Some value → Digits minus n (c ∷ cs) value
 long_found minus n c [] value l e =
     record { digits = []; long = true; all = refl; means = e; is = ap (λ (k : ℕ). k ∷ []) ((Decides-eqb c 76).0 l) }
-long_found minus n c (d ∷ ds) value l e = absurd (none_is e)
-  where
-    none_is : None ≡ Some value → ⊥
-    none_is e = cc
+long_found minus n c (d ∷ ds) value l e = absurd (none-some value e)
 
 digits_found : (minus : Bool) (n : ℕ) (text : List ℕ) (value : Value) → digits_value minus n text ≡ Some value → Digits minus n text value
 unfolding digits_value
@@ -60,12 +58,9 @@ digits_found minus n (c ∷ cs) value e =
       | false ↦ λ l e. elim (goes_on n c) as (λ v. goes_on n c ≡ v → cond v (digits_value minus (n * 10 + (c - 48)) cs) None ≡ Some value → Digits minus n (c ∷ cs) value) [
         | true ↦ λ g e. let rest = digits_found minus (n * 10 + (c - 48)) cs value e in
             record { digits = c ∷ rest.digits; long = rest.long; all = and_from _ _ (and_parts (is_digit c) _ g).0 rest.all; means = rest.means; is = ap (λ (l : List ℕ). c ∷ l) rest.is }
-        | false ↦ λ g e. absurd (none_is e)
+        | false ↦ λ g e. absurd (none-some value e)
       ] refl e
     ] refl e
-  where
-    none_is : None ≡ Some value → ⊥
-    none_is e = cc
 
 -- one digit at least, where the text begins with one
 are_digits : (text ds mark : List ℕ) → text ≡ ds ++ mark → starts_digit text ≡ true → starts_digit mark ≡ false → list_all is_digit ds ≡ true → AreDigits ds
@@ -82,11 +77,8 @@ some_found minus text value e =
     elim (starts_digit text) as (λ v. starts_digit text ≡ v → cond v (digits_value minus 0 text) None ≡ Some value → IsLiteral value (sign minus ++ text)) [
       | true ↦ λ h e. let d = digits_found minus 0 text value e in
           record { literal = Whole minus d.digits d.long; means = (are_digits text d.digits (long_mark d.long) d.is h (mark_no_digit d.long) d.all, d.means); is = ap (λ (l : List ℕ). sign minus ++ l) d.is }
-      | false ↦ λ h e. absurd (none_is e)
+      | false ↦ λ h e. absurd (none-some value e)
     ] refl e
-  where
-    none_is : None ≡ Some value → ⊥
-    none_is e = cc
 
 integer_found : (text : List ℕ) (value : Value) → integer_value text ≡ Some value → IsLiteral value text
 unfolding integer_value
@@ -96,16 +88,13 @@ integer_found text value e =
       | false ↦ λ h e. some_found false text value e
     ] refl e
 
-some_same : {x y : Value} → Some x ≡ Some y → x ≡ y
-some_same e = cc
-
 plain_found : (word : List ℕ) (value : Value) → plain_value word ≡ Some value → IsLiteral value word
 unfolding plain_value
 plain_found word value e =
     elim (bytes_eq word (codes "true")) as (λ v. bytes_eq word (codes "true") ≡ v → cond v (Some (Flag true)) (cond (bytes_eq word (codes "false")) (Some (Flag false)) (integer_value word)) ≡ Some value → IsLiteral value word) [
-      | true ↦ λ h e. record { literal = Truth true; means = sym (some_same e); is = (bytes_eq-Decides word (codes "true")).0 h }
+      | true ↦ λ h e. record { literal = Truth true; means = sym (same_Some _ _ e); is = (bytes_eq-Decides word (codes "true")).0 h }
       | false ↦ λ h e. elim (bytes_eq word (codes "false")) as (λ v. bytes_eq word (codes "false") ≡ v → cond v (Some (Flag false)) (integer_value word) ≡ Some value → IsLiteral value word) [
-        | true ↦ λ h e. record { literal = Truth false; means = sym (some_same e); is = (bytes_eq-Decides word (codes "false")).0 h }
+        | true ↦ λ h e. record { literal = Truth false; means = sym (same_Some _ _ e); is = (bytes_eq-Decides word (codes "false")).0 h }
         | false ↦ λ h e. integer_found word value e
       ] refl e
     ] refl e
@@ -187,11 +176,8 @@ inside_found (b ∷ c ∷ cs) bytes left e =
 
 -- ---- words with quotes behind them
 map_some : {A : Type 0} (f : A → Value) (o : Option A) (value : Value) → option_map f o ≡ Some value → (x : A) × (o ≡ Some x) × (value ≡ f x)
-map_some f None value e = absurd (none_is e)
-  where
-    none_is : None ≡ Some value → ⊥
-    none_is e = cc
-map_some f (Some x) value e = (x, refl, sym (some_same e))
+map_some f None value e = absurd (none-some value e)
+map_some f (Some x) value e = (x, refl, sym (same_Some _ _ e))
 
 prefixed_found : (word inside : List ℕ) (value : Value) → IsUnquoted inside → prefixed_value word inside ≡ Some value → IsLiteral value (word ++ (39 ∷ inside ++ 39 ∷ []))
 unfolding prefixed_value guid_of
@@ -208,7 +194,7 @@ prefixed_found word inside value unquoted e =
           | false ↦ λ _ e. elim (bytes_eq word (codes "binary")) as (λ v. bytes_eq word (codes "binary") ≡ v → cond v (option_map Bytes (hex_pairs inside)) None ≡ Some value → IsLiteral value (word ++ tail)) [
             | true ↦ λ h e. let m = map_some Bytes (hex_pairs inside) value e in
                 record { literal = Long inside; means = (unquoted, m.0, m.1, m.2); is = ap (λ (l : List ℕ). l ++ tail) ((bytes_eq-Decides word (codes "binary")).0 h) }
-            | false ↦ λ _ e. absurd (none_is e)
+            | false ↦ λ _ e. absurd (none-some value e)
           ] refl e
         ] refl e
       ] refl e
@@ -222,9 +208,6 @@ prefixed_found word inside value unquoted e =
 
     others : Option Value
     others = cond (bytes_eq word (codes "guid")) (option_map Guid (parsed (encode_utf8_all inside))) hexadecimal
-
-    none_is : None ≡ Some value → ⊥
-    none_is e = cc
 
 -- ---- tokens
 abbrev erring : ParseFault → Read Value

@@ -1,6 +1,5 @@
 -- Steps of the loops that read literals.
 use Rattle.std.proofs.Common.{◌≡◌, ℕ, ◌+◌, ◌-◌, ◌<◌, List, [], ◌∷◌, ◌++◌, length, take, get_or, true, false, cond, ◌==◌, Option, Some, None, refl, ap, sym, ◌∙◌, arith, append_assoc, append-nil, length-append}
-use Rattle.std.proofs.lemmas.Bool.Decides.{Decides-eqb}
 use Rattle.std.proofs.lemmas.List.{take_more}
 use Rattle.std.proofs.lemmas.Str.{encodes-append, length-encode}
 use Rattle.std.specs.Char.{len_utf8}
@@ -85,11 +84,6 @@ pairs_wrong bytes text rest last whole high low so_far is and_low pair =
 pub guid_none : (o : Option (List ℕ)) → ((u : List ℕ) → o ≡ Some u → ⊥) → None ≡ option_map Guid o
 guid_none None h = refl
 guid_none (Some u) h = absurd (h u refl)
-
--- ---- tests
-pub differs : (a b : ℕ) → (a ≡ b → ⊥) → (a == b) ≡ false
-differs a b h =
-    elim (a == b) as (λ v. (a == b) ≡ v → v ≡ false) [ true ↦ λ e. absurd (h ((Decides-eqb a b).0 e)) | false ↦ λ e. refl ] refl
 
 -- ---- offsets
 pub offset_more : (rest : List ℕ) (i whole at new c : ℕ) → i < length rest → at ≡ whole - length (encode_utf8_all (take i rest)) → c ≡ get_or rest i 0 → new ≡ at - len_utf8 c → new ≡ whole - length (encode_utf8_all (take (i + 1) rest))

@@ -7,7 +7,7 @@ use Rattle.tab_filter.specs.declared.trees.Operator.{Operator}
 use Rattle.tab_filter.specs.declared.trees.Operator.TheVariants.{Greater, GreaterOrEqual}
 use Rattle.tab_filter.specs.declared.lexer.Joint.{Joint}
 use Rattle.tab_filter.specs.declared.lexer.Joint.TheVariants.{And, Or, Neither}
-use Rattle.tab_filter.specs.Trees.{Negation, Both, Either}
+use Rattle.tab_filter.specs.Trees.{Both, Either}
 use Rattle.tab_keys.specs.Results.{◌>>=◌}
 use Rattle.tab_filter.specs.Lexer.{Read, Syntax, Deep, TooMany, starts, front_of, behind, is_plain, expect, gap_at, edge_at, either_letter_at, operator_at, name_at, is_not, operator_named, joint_at}
 use Rattle.tab_filter.specs.Literals.{literal_at, word_at}
@@ -15,8 +15,10 @@ use Rattle.tab_filter.specs.Parser.{PartView, AllView, AnyView, compared, room_a
 use Rattle.tab_filter.specs.Grammar.{blank}
 use Rattle.tab_filter.proofs.Splits.{split_behind}
 use Rattle.tab_filter.proofs.Phrases.{blank_append}
-use Rattle.tab_filter.proofs.LexerLaws.{starts-blank, after_blank, gap_complete, edge_complete, ends_name-blank, NameRead, name_read, name_complete, name_no_space, name_no_opening, letters, letters_are_name, operator_named-letters, is_not-letters}
-use Rattle.tab_filter.proofs.SoundParser.{Sole, sole_found, sole_into}
+use Rattle.tab_filter.proofs.LexerLaws.{starts-blank, after_blank, gap_complete, edge_complete, ends_name-blank, name_complete, name_no_space, name_no_opening, letters, letters_are_name, operator_named-letters, is_not-letters}
+use Rattle.tab_filter.proofs.Complete.{letters_read}
+use Rattle.tab_filter.proofs.SoundParser.{negation_of, Sole, sole_found, sole_into}
+use Rattle.tab_filter.proofs.SoundPhrases.{group_of}
 use Rattle.tab_filter.proofs.Same.{ended_after, Ended, found, halted, err_no_ok, deep_no_stop, many_no_stop, Same, no_end, cancel, ended_bind, same_bind, same_map, same_stay, same_fault, same_choice, same_starts}
 use Rattle.tab_filter.proofs.SameLexer.{spaces_at, same_spaces, same_either_letter, same_word, same_expect, same_gap, same_edge, same_operator, same_joint, same_name, same_literal}
 
@@ -56,9 +58,6 @@ same_operation most more used name h =
     same_bind operator_at operator_at (λ _ o t. room_at most used t >>= λ r. (gap_at r.1 >>= λ g. compared_at used name o g.1)) (λ _ o t. room_at more used t >>= λ r. (gap_at r.1 >>= λ g. compared_at used name o g.1)) same_operator
     (λ t u o. same_room most more used (λ t. gap_at t >>= λ g. compared_at used name o g.1) (λ t. gap_at t >>= λ g. compared_at used name o g.1) h
     (same_bind gap_at gap_at (λ _ _ t. compared_at used name o t) (λ _ _ t. compared_at used name o t) same_gap (λ t u v. same_compared used name o)))
-
-abbrev negation_of : PartView → PartView
-negation_of p = record { tree = Negation p.tree; closed = p.closed; used = p.used }
 
 same_negated : (f g : List ℕ → Read PartView) → Same f g → Same (λ t. negated (f t)) (λ t. negated (g t))
 same_negated f g same = same_map f g negation_of same
@@ -220,22 +219,16 @@ same_any part other same parts pieces (suc n) (suc m) used h i =
     same_bind (all_at part parts used) (all_at other pieces used) (λ _ a l. any_more (any_at part parts n) a a.joint l) (λ _ a l. any_more (any_at other pieces m) a a.joint l) (same_all part other same parts pieces used h)
     (λ _ _ a. same_any_more (any_at part parts n) (any_at other pieces m) a a.joint (λ used. same_any part other same parts pieces n m used h (omega arith)))
 
-abbrev group_of : AnyView → PartView
-group_of a = record { tree = a.tree; closed = true; used = a.used }
-
 same_closed : (f g : List ℕ → Read AnyView) → Same f g → Same (λ l. closed_group (f l)) (λ l. closed_group (g l))
 same_closed f g same =
     same_bind f g (λ _ a l. expect 41 l >>= λ e. Ok (group_of a, e.1)) (λ _ a l. expect 41 l >>= λ e. Ok (group_of a, e.1)) same
     (λ _ _ a. same_map (expect 41) (expect 41) (λ _. group_of a) (same_expect 41))
 
 -- ---- a `not` that may not be opened
-names_read : (o : Operator) (b : ℕ) (r : List ℕ) → 0 < b → NameRead (letters o) (blank b r)
-names_read o b r h = name_read (letters o) (blank b r) (letters_are_name o) (ends_name-blank b r h)
-
 sole_reads : (a : ℕ) (o : Operator) (b : ℕ) (x : List ℕ) → 0 < a → 0 < b → starts 32 x ≡ false → begins_literal x ≡ true → sole_operator (blank a (letters o ++ blank b x)) ≡ Some (o, x)
 unfolding sole_operator
 sole_reads a o b x ha hb no_space literal =
-    let n = names_read o b x hb in
+    let n = letters_read o b x hb in
     rw (starts-blank a (letters o ++ blank b x) ha, after_blank a (letters o ++ blank b x) (name_no_space (letters o) (blank b x) (letters_are_name o)), n.starts, n.behind, starts-blank b x hb, n.whole, operator_named-letters o, after_blank b x no_space, literal)
     refl
 

@@ -7,6 +7,7 @@ use Rattle.tab_edm.specs.declared.values.Value.{Value}
 use Rattle.tab_keys.specs.Results.{◌>>=◌}
 use Rattle.tab_filter.specs.Lexer.{Read, Syntax, BadLiteral, Deep, TooMany, starts, past_first, after_spaces, behind, gap_at, edge_at}
 use Rattle.tab_filter.specs.Grammar.{ends_token, IsLiteral, blank}
+use Rattle.tab_filter.proofs.Phrases.{blank_append}
 
 -- no literal stands here, and no parenthesis
 pub record IsBad (left : List ℕ) : Type 0 where
@@ -102,16 +103,8 @@ spaces (b ∷ bs) =
       | false ↦ λ e. (0, refl)
     ] refl
 
-blank_is : (n : ℕ) (r : List ℕ) → blank n r ≡ blank n [] ++ r
-blank_is zero r = refl
-blank_is (suc n) r = ap (λ (l : List ℕ). 32 ∷ l) (blank_is n r)
-
 pub blank_into : (n : ℕ) (r : List ℕ) → blank n [] ++ r ≡ blank n r
-blank_into n r = sym (blank_is n r)
-
-shifted : (n : ℕ) (p r : List ℕ) → blank n (p ++ r) ≡ blank n p ++ r
-shifted zero p r = refl
-shifted (suc n) p r = ap (λ (l : List ℕ). 32 ∷ l) (shifted n p r)
+blank_into n r = sym (blank_append n [] r)
 
 spaced : (n : ℕ) (r : List ℕ) → blank (suc n) r ≡ blank n [] ++ 32 ∷ r
 spaced zero r = refl
@@ -133,7 +126,7 @@ some_spaces (b ∷ bs) h =
 pub gap_sound : (t : List ℕ) → Sound Gap t (gap_at t)
 gap_sound t =
     sound_if Gap t (starts 32 t) (Ok (tt, after_spaces t)) (Err (Syntax t))
-    (λ h. let n = some_spaces t h in (blank n.0 [], record { count = n.0; some = n.1; is = refl }, n.2 ∙ blank_is n.0 (after_spaces t)))
+    (λ h. let n = some_spaces t h in (blank n.0 [], record { count = n.0; some = n.1; is = refl }, n.2 ∙ blank_append n.0 [] (after_spaces t)))
     (λ h. sound_here Gap t (32 ∷ []) tt (record { count = 1; some = omega arith; is = refl }))
 
 -- spaces, where what follows them begins with a `(` or there is one at least
@@ -150,14 +143,14 @@ sound_opening H K t u n (Ok x) is h some join g = opened g.0 g.1 g.2
     opened : (s : List ℕ) → H true x.0 s → u ≡ s ++ x.1 → (s2 : List ℕ) × K true x.0 s2 × (t ≡ s2 ++ x.1)
     opened [] g e = absurd (some true x.0 g)
     opened (c ∷ cs) g e =
-        (blank n (c ∷ cs), join true n x.0 (c ∷ cs) g (inr (sym (ap (starts 40) e) ∙ h)), is ∙ ap (blank n) e ∙ shifted n (c ∷ cs) x.1)
+        (blank n (c ∷ cs), join true n x.0 (c ∷ cs) g (inr (sym (ap (starts 40) e) ∙ h)), is ∙ ap (blank n) e ∙ blank_append n (c ∷ cs) x.1)
 sound_opening {B} H K t u n (Err (Syntax left)) is h some join g = opened g.0 g.1 g.2 g.3 g.4
   where
     opened : (p more : List ℕ) (v : B) → H false v (p ++ more) → u ≡ p ++ left → (q : List ℕ) × (rest : List ℕ) × (w : B) × K false w (q ++ rest) × (t ≡ q ++ left)
     opened [] more v g e =
-        (blank n [], 32 ∷ more, v, subst (K false v) (spaced n more) (join false (suc n) v more g (inl (omega arith))), is ∙ ap (blank n) e ∙ blank_is n left)
+        (blank n [], 32 ∷ more, v, subst (K false v) (spaced n more) (join false (suc n) v more g (inl (omega arith))), is ∙ ap (blank n) e ∙ blank_append n [] left)
     opened (c ∷ cs) more v g e =
-        (blank n (c ∷ cs), more, v, subst (K false v) (shifted n (c ∷ cs) more) (join false n v ((c ∷ cs) ++ more) g (inr (edge_start (c ∷ cs) u more n h c cs refl left e))), is ∙ ap (blank n) e ∙ shifted n (c ∷ cs) left)
+        (blank n (c ∷ cs), more, v, subst (K false v) (blank_append n (c ∷ cs) more) (join false n v ((c ∷ cs) ++ more) g (inr (edge_start (c ∷ cs) u more n h c cs refl left e))), is ∙ ap (blank n) e ∙ blank_append n (c ∷ cs) left)
 sound_opening {B} H K t u n (Err (BadLiteral left)) is h some join g = opened g.0 g.1 g.2 g.3
   where
     opened : (p : List ℕ) → Due H p → u ≡ p ++ left → IsBad left → (q : List ℕ) × Due K q × (t ≡ q ++ left) × IsBad left
@@ -165,8 +158,8 @@ sound_opening {B} H K t u n (Err (BadLiteral left)) is h some join g = opened g.
     opened (c ∷ cs) due e bad = (
       blank n (c ∷ cs),
       λ w value l. let d = due w value l in
-          (d.0, d.1, subst (K false d.1) (shifted n (c ∷ cs) (w ++ d.0)) (join false n d.1 ((c ∷ cs) ++ (w ++ d.0)) d.2 (inr (edge_start (c ∷ cs) u (w ++ d.0) n h c cs refl left e)))),
-      is ∙ ap (blank n) e ∙ shifted n (c ∷ cs) left,
+          (d.0, d.1, subst (K false d.1) (blank_append n (c ∷ cs) (w ++ d.0)) (join false n d.1 ((c ∷ cs) ++ (w ++ d.0)) d.2 (inr (edge_start (c ∷ cs) u (w ++ d.0) n h c cs refl left e)))),
+      is ∙ ap (blank n) e ∙ blank_append n (c ∷ cs) left,
       bad,
     )
 sound_opening H K t u n (Err (Deep left)) is h some join g = tt

@@ -64,7 +64,7 @@ name_front_all (suc n) (b ∷ bs) =
       | false ↦ λ h. (refl, omega arith)
     ] refl
 
-whole_name_is : (t : List ℕ) → starts_name t ≡ true → IsName (whole_name t)
+pub whole_name_is : (t : List ℕ) → starts_name t ≡ true → IsName (whole_name t)
 unfolding whole_name
 whole_name_is [] h = absurd (true≢false (sym h))
 whole_name_is (b ∷ bs) h = let rest = name_front_all 254 bs in (h, rest.0, rest.1)

@@ -221,7 +221,7 @@ gap_for true n s o h = tt
 gap_for false n s o (inl h) = h
 gap_for false n s o (inr h) = absurd (true≢false (sym h ∙ o))
 
-abbrev negation_of : PartView → PartView
+abbrev pub negation_of : PartView → PartView
 negation_of p = record { tree = Negation p.tree; closed = p.closed; used = p.used }
 
 negated_second : (most depth used : ℕ) (k : Bool) (p : PartView) (s : List ℕ) → PartText most depth used k p s → SecondText most (suc depth) used k (negation_of p) s
@@ -284,7 +284,7 @@ pick name false x o rest e here there = there e
 none_operator : {o : Operator} → None ≡ Some o → ⊥
 none_operator e = cc
 
-operator_letters : (name : List ℕ) (o : Operator) → operator_named name ≡ Some o → name ≡ letters o
+pub operator_letters : (name : List ℕ) (o : Operator) → operator_named name ≡ Some o → name ≡ letters o
 unfolding operator_named
 operator_letters [] o h = absurd (none_operator h)
 operator_letters (a ∷ []) o h = absurd (none_operator h)

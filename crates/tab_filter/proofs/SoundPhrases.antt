@@ -10,6 +10,7 @@ use Rattle.tab_filter.specs.Lexer.{Read, starts, after_spaces, expect, edge_at, 
 use Rattle.tab_filter.specs.Parser.{PartView, AllView, AnyView, compared, part_at, all_more, all_at, any_more, any_at, closed_group, inner_at}
 use Rattle.tab_filter.specs.Grammar.{Phrase, Comparing, Group, Negated, Joined, Parted, blank, text_of, tree_at, opens, closes, comparisons, unary, conjunction, disjunction, Fits, IsGap}
 use Rattle.tab_filter.proofs.Phrases.{blank_append, text_append, text_begins}
+use Rattle.tab_filter.proofs.Complete.{neither_no_and, or_no_and}
 use Rattle.tab_filter.proofs.Sound.{Meaning, Sound, sound_after, sound_bind, sound_map, spaces, blank_into, IsEdge, sound_edge}
 use Rattle.tab_filter.proofs.SoundLexer.{Is, expect_sound, some_name, TailText, Tail, joint_sound}
 use Rattle.tab_filter.proofs.SoundParser.{Few, Deeply, PartText, Behind, InnerSound, part_sound, some_part, text_some, gap_for, negation_sound, closed_sound}
@@ -115,18 +116,9 @@ joined_all most depth used a k v w e s t p tail =
 -- what may stand where parts are due: `e eq 0`
 some_all : (most depth used : ℕ) → AllText most depth used false (alone (compared (101 ∷ []) Equal (Int32 (pos 0)) used) Neither) (101 ∷ 32 ∷ 101 ∷ 113 ∷ 32 ∷ 48 ∷ [])
 some_all most depth used =
-    one_all most depth used (compared (101 ∷ []) Equal (Int32 (pos 0)) used) Neither false no_and (101 ∷ 32 ∷ 101 ∷ 113 ∷ 32 ∷ 48 ∷ []) [] (some_part most depth used (101 ∷ []) some_name) (0, refl)
-  where
-    no_and : Neither ≡ And → ⊥
-    no_and e = cc
+    one_all most depth used (compared (101 ∷ []) Equal (Int32 (pos 0)) used) Neither false neither_no_and (101 ∷ 32 ∷ 101 ∷ 113 ∷ 32 ∷ 48 ∷ []) [] (some_part most depth used (101 ∷ []) some_name) (0, refl)
 
-or_no_and : Or ≡ And → ⊥
-or_no_and e = cc
-
-neither_no_and : Neither ≡ And → ⊥
-neither_no_and e = cc
-
-abbrev PartsSound : ℕ → ℕ → (ℕ → List ℕ → Read PartView) → Type 0
+abbrev pub PartsSound : ℕ → ℕ → (ℕ → List ℕ → Read PartView) → Type 0
 PartsSound most depth part = (used : ℕ) (t : List ℕ) → Sound (PartText most depth used) t (part used t)
 
 more_all : (most depth used : ℕ) (rest : ℕ → List ℕ → Read AllView) (a : PartView) (joint : Joint) (t : List ℕ) → ((used : ℕ) (t : List ℕ) → Sound (AllText most depth used) t (rest used t)) → Sound (AfterJoint most depth used a joint) t (all_more rest a joint t)
@@ -187,7 +179,7 @@ alone_any a = record { tree = a.tree; used = a.used }
 neither_tail : (closed : Bool) (joint : Joint) (t : List ℕ) → joint ≡ Neither → TailText closed joint t → (n : ℕ) × (t ≡ blank n [])
 neither_tail closed joint t e tail = subst (λ (j : Joint). TailText closed j t) e tail
 
-or_tail : (closed : Bool) (joint : Joint) (t : List ℕ) → joint ≡ Or → TailText closed joint t → (n : ℕ) × IsGap closed n × (t ≡ blank n (111 ∷ 114 ∷ []))
+pub or_tail : (closed : Bool) (joint : Joint) (t : List ℕ) → joint ≡ Or → TailText closed joint t → (n : ℕ) × IsGap closed n × (t ≡ blank n (111 ∷ 114 ∷ []))
 or_tail closed joint t e tail = subst (λ (j : Joint). TailText closed j t) e tail
 
 one_any : (most depth used : ℕ) (a : AllView) (k : Bool) → a.joint ≡ Neither → AfterAll most depth used a k (alone_any a) []
@@ -268,7 +260,7 @@ any_sound most depth part law parts (suc n) used t =
     (λ k a v s w g after. after s g)
 
 -- ---- groups
-abbrev group_of : AnyView → PartView
+abbrev pub group_of : AnyView → PartView
 group_of a = record { tree = a.tree; closed = true; used = a.used }
 
 deep_group : (k : Bool) (a : ℕ) (inner : Phrase) (b : ℕ) (depth : ℕ) → Deeply k inner depth → Deeply k (Group a inner b) (suc depth)

@@ -1,6 +1,6 @@
 -- No key of a window lies below its lower corner, and it reaches each partition up to that of a key that it has.
-use Rattle.std.proofs.Common.{◌≡◌, ℕ, List, [], ◌∷◌, Bool, true, false, cond, not, ◌&&◌, ◌||◌, refl, ap, sym, ◌∙◌}
-use Rattle.std.proofs.lemmas.Bool.{and_parts, true≢false}
+use Rattle.std.proofs.Common.{◌≡◌, ℕ, List, [], ◌∷◌, true, false, cond, not, ◌&&◌, refl, ap, sym, ◌∙◌}
+use Rattle.std.proofs.lemmas.Bool.{and_parts, and_right, or_from, true≢false}
 use Rattle.std.specs.declared.cmp.Ordering.{Ordering}
 use Rattle.std.specs.declared.cmp.Ordering.TheVariants.{Less, Equal, Greater}
 use Rattle.std.specs.Ordering.{ordering_then, ordering_reverse, is_eq, is_lt, is_gt, is_le, is_ge}
@@ -95,21 +95,13 @@ not_great NotEqual p key t h m = refl
 not_great GreaterThan p key t h m = refl
 not_great GreaterOrEqual p key t h m = refl
 
-or_false : (a b : Bool) → a ≡ false → b ≡ false → (a || b) ≡ false
-or_false true b h k = h
-or_false false b h k = k
-
-and_false : (a b : Bool) → b ≡ false → (a && b) ≡ false
-and_false true b h = h
-and_false false b h = refl
-
 pub none_great : (ns : List Narrowing) (p key : List ℕ) → is_lt (text_cmp key p) ≡ false → all_meet ns key ≡ true → any_too_great ns p ≡ false
 none_great [] p key h m = refl
 none_great (n ∷ ns) p key h m =
     let parts = and_parts (operator_holds n.operator (text_cmp key n.text)) (all_meet ns key) m in
-    or_false (great_by n.operator p n.text) (any_too_great ns p) (not_great n.operator p key n.text h parts.0) (none_great ns p key h parts.1)
+    or_from (great_by n.operator p n.text) (any_too_great ns p) (not_great n.operator p key n.text h parts.0) (none_great ns p key h parts.1)
 
 pub reaches_up_to : (w : WindowView) (pk rk p : List ℕ) → has w pk rk ≡ true → is_lt (text_cmp pk p) ≡ false → reaches w p ≡ true
 reaches_up_to w pk rk p h below =
     let parts = and_parts (all_meet w.partitions pk) (all_meet w.rows rk) h in
-    ap not (or_false (any_too_great w.partitions p) (any_fixes_at w.partitions p && any_too_great w.rows []) (none_great w.partitions p pk below parts.0) (and_false (any_fixes_at w.partitions p) (any_too_great w.rows []) (none_great w.rows [] rk (text_cmp-nil rk) parts.1)))
+    ap not (or_from (any_too_great w.partitions p) (any_fixes_at w.partitions p && any_too_great w.rows []) (none_great w.partitions p pk below parts.0) (and_right (any_fixes_at w.partitions p) (any_too_great w.rows []) (none_great w.rows [] rk (text_cmp-nil rk) parts.1)))

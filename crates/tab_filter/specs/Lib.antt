@@ -6,3 +6,4 @@ pub mod Literals
 pub mod Parser
 pub mod Offsets
 pub mod Grammar
+pub mod Limits

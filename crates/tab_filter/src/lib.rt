@@ -3,6 +3,7 @@
 #![tactic(auto)]
 
 mod filter_text;
+mod laws;
 mod lexer;
 mod literals;
 mod parse_stop;
@@ -12,5 +13,6 @@ mod truth;
 mod window;
 
 pub use filter_text::{FilterRefused, parse};
+pub use laws::refusals_are_placed;
 pub use trees::{Comparison, Filter, Operator};
 pub use window::{Window, matches_within_window, window_reaches_its_keys, window_starts_low};

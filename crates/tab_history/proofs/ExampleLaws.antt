@@ -15,9 +15,11 @@ use Rattle.tab_page.specs.Pages.{start_key, listed, looked_at, page_up_to, page_
 use Rattle.tab_page.proofs.RisingLists.{AllPairs-nil}
 use Rattle.tab_ops.specs.Changes.{group_keys}
 use Rattle.tab_history.specs.World.{Named, IsWorld, table_of, floor_of, MayHaveTick}
+use Rattle.tab_history.specs.Doubts.{SparesKeys, SparesPage, SparesNames}
 use Rattle.tab_history.specs.Legality.{after, after_all, table_for, AreBounds, Allows, Legal}
 use Rattle.tab_history.specs.Followed.{resolve_of, page_entry, entries_of, IsFollowed}
 use Rattle.tab_history.specs.declared.entries.Entry.TheVariants as entry
+use Rattle.tab_history.proofs.DoubtLaws.{no_doubts, none_open}
 use Rattle.tab_history.specs.Example.{cats, opening, row_of, insert_of_d, first, second, query}
 
 abbrev rows : List RowView
@@ -58,11 +60,11 @@ example_world = record {
       (All-cons P (row_of 98 1) (row_of 99 2 ∷ []) (below_floor 98 1 (omega arith) floor.1) (All-cons P (row_of 99 2) [] (below_floor 99 2 (omega arith) floor.2) (All-nil P)));
 }
 
-first_page : Allows (after opening (resolve_of first)) (page_entry first)
+pub first_page : Allows (after opening (resolve_of first)) (page_entry first)
 unfolding table_for page_of page_below page_up_to listed looked_at start_key key_cmp text_cmp units_of chars
-first_page = (refl, refl)
+first_page = (refl, refl, no_doubts (SparesPage (start_key 1 first.options) first.page.end))
 
-may_have : MayHaveTick opening.world.floors (group_keys 1 (insert_of_d ∷ [])) 7 7
+pub may_have : MayHaveTick opening.world.floors (group_keys 1 (insert_of_d ∷ [])) 7 7
 may_have = record {
   from_now = omega arith;
   from_floors = All-cons (λ key. floor_of opening.world.floors key ≤ 7) (row_of 100 7).key [] (subst (λ floor. floor ≤ 7) (sym floor.3) (omega arith)) (All-nil (λ key. floor_of opening.world.floors key ≤ 7));
@@ -72,9 +74,9 @@ may_have = record {
 
 change : Allows (after (after (after opening (resolve_of first)) (page_entry first)) (entry.Resolve 2 cats (Some 1))) (entry.Change 2 7 1 (insert_of_d ∷ []) (Ok 7))
 unfolding table_for row_at with_row key_cmp text_cmp units_of chars
-change = (refl, (row_of 97 0 ∷ row_of 98 1 ∷ row_of 99 2 ∷ row_of 100 7 ∷ [], refl), may_have)
+change = (refl, (row_of 97 0 ∷ row_of 98 1 ∷ row_of 99 2 ∷ row_of 100 7 ∷ [], refl), may_have, no_doubts (SparesKeys (group_keys 1 (insert_of_d ∷ []))))
 
-split : AreBounds (At 0 [] ∷ At 1 (98 ∷ []) ∷ [])
+pub split : AreBounds (At 0 [] ∷ At 1 (98 ∷ []) ∷ [])
 unfolding key_cmp text_cmp units_of chars
 split =
     let R = λ (a b : Bound). IsTrue (bound_lt a b) in
@@ -86,11 +88,13 @@ split =
 
 second_page : Allows (after (after_all (after (after opening (resolve_of first)) (page_entry first)) (entry.Resolve 2 cats (Some 1) ∷ entry.Change 2 7 1 (insert_of_d ∷ []) (Ok 7) ∷ entry.Bounds (At 0 [] ∷ At 1 (98 ∷ []) ∷ []) ∷ [])) (resolve_of second)) (page_entry second)
 unfolding table_for page_of page_below page_up_to listed looked_at start_key row_at with_row key_cmp text_cmp units_of chars
-second_page = (refl, refl)
+second_page = (refl, refl, no_doubts (SparesPage (start_key 1 second.options) second.page.end))
 
 pub example_legal : Legal opening (entries_of query)
 unfolding table_of folded
-example_legal = (refl, (first_page, (refl, (change, (split, (refl, (second_page, tt)))))))
+example_legal =
+    let named = no_doubts SparesNames in
+    record { doubts = none_open opening.world; steps = ((refl, named), (first_page, ((refl, named), (change, (split, ((refl, named), (second_page, tt))))))) }
 
 pub example_followed : IsFollowed query
 unfolding folded

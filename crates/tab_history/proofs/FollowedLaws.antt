@@ -25,7 +25,8 @@ use Rattle.tab_history.specs.World.{IsWorld, table_of}
 use Rattle.tab_history.specs.Legality.{State, after, after_all, Allows, Legal}
 use Rattle.tab_history.specs.Followed.{Asked, Leg, Query, resolve_of, page_entry, entries_from, entries_of, rows_from, GoesOn, IsFollowedFrom, at_first, Leaves, IsUnwritten, pair_lt, first_key, IsRight, AreRight, FollowedWell}
 use Rattle.tab_history.specs.declared.entries.Entry.{Entry}
-use Rattle.tab_history.proofs.HistoryLaws.{Legal-parts, rising_after, each_append, unwritten_row, unwritten_name, table_of-folded}
+use Rattle.tab_history.proofs.DoubtLaws.{LegalSteps, legal_steps}
+use Rattle.tab_history.proofs.HistoryLaws.{steps_parts, rising_after, accepted_append, unwritten_row, unwritten_name, table_of-folded}
 
 -- ---- pairs
 
@@ -88,13 +89,13 @@ starts_at : (before : Asked) (leg : Leg) (go : GoesOn before leg) → start_pair
 starts_at before leg go = ap start_pair go.options
 
 -- no row from a page on is below its start
-pub rows_start : (state : State) (asked : Asked) (legs : List Leg) → AreRising state.world.rows → Legal state (entries_from asked legs) → IsFollowedFrom asked legs
+pub rows_start : (state : State) (asked : Asked) (legs : List Leg) → AreRising state.world.rows → LegalSteps state (entries_from asked legs) → IsFollowedFrom asked legs
     → (row : RowView) → Contains (rows_from asked legs) row → pairs_lt (pair_of row.key) (start_pair asked.options) ≡ false
-rows_start state asked [] rising legal followed row within = (page_one state asked rising legal.0).from row within
+rows_start state asked [] rising legal followed row within = (page_one state asked rising legal.0.0).from row within
 rows_start state asked (leg ∷ legs) rising legal followed row within =
-    let one = page_one state asked rising legal.0 in
+    let one = page_one state asked rising legal.0.0 in
     let go = followed.0 in
-    let parts = Legal-parts (after state (page_entry asked)) leg.between (entries_from leg.asked legs) legal.1 in
+    let parts = steps_parts (after state (page_entry asked)) leg.between (entries_from leg.asked legs) legal.1 in
     ⊎_elim
     (λ here. one.from row here)
     (λ later.
@@ -107,12 +108,12 @@ rows_start state asked (leg ∷ legs) rising legal followed row within =
 abbrev pub Rises : RowView → RowView → Type 0
 Rises a b = IsTrue (pair_lt a.key b.key)
 
-pub rows_rise : (state : State) (asked : Asked) (legs : List Leg) → AreRising state.world.rows → Legal state (entries_from asked legs) → IsFollowedFrom asked legs → AllPairs Rises (rows_from asked legs)
-rows_rise state asked [] rising legal followed = (page_one state asked rising legal.0).rising
+pub rows_rise : (state : State) (asked : Asked) (legs : List Leg) → AreRising state.world.rows → LegalSteps state (entries_from asked legs) → IsFollowedFrom asked legs → AllPairs Rises (rows_from asked legs)
+rows_rise state asked [] rising legal followed = (page_one state asked rising legal.0.0).rising
 rows_rise state asked (leg ∷ legs) rising legal followed =
-    let one = page_one state asked rising legal.0 in
+    let one = page_one state asked rising legal.0.0 in
     let go = followed.0 in
-    let parts = Legal-parts (after state (page_entry asked)) leg.between (entries_from leg.asked legs) legal.1 in
+    let parts = steps_parts (after state (page_entry asked)) leg.between (entries_from leg.asked legs) legal.1 in
     let later = rising_after (after state (page_entry asked)) leg.between parts.0 rising in
     AllPairs-append Rises asked.page.rows (rows_from leg.asked legs) one.rising
     (rows_rise (after_all (after state (page_entry asked)) leg.between) leg.asked legs later parts.1 followed.1)
@@ -127,39 +128,39 @@ page_right state asked rising allowed =
     All-from_each (λ row. (row_at state.world.rows row.key ≡ Some row) × (row.key.table ≡ asked.table) × IsTrue (matches asked.options row)) asked.page.rows
     (λ row within. let right = (page_one state asked rising allowed).right row within in (row_at-own state.world.rows rising row right.0, right.1, right.2))
 
-pages_right : (state : State) (asked : Asked) (legs : List Leg) → AreRising state.world.rows → Legal state (entries_from asked legs) → AreRight state asked legs
-pages_right state asked [] rising legal = page_right state asked rising legal.0
+pages_right : (state : State) (asked : Asked) (legs : List Leg) → AreRising state.world.rows → LegalSteps state (entries_from asked legs) → AreRight state asked legs
+pages_right state asked [] rising legal = page_right state asked rising legal.0.0
 pages_right state asked (leg ∷ legs) rising legal =
-    let parts = Legal-parts (after state (page_entry asked)) leg.between (entries_from leg.asked legs) legal.1 in
-    (page_right state asked rising legal.0, pages_right (after_all (after state (page_entry asked)) leg.between) leg.asked legs (rising_after (after state (page_entry asked)) leg.between parts.0 rising) parts.1)
+    let parts = steps_parts (after state (page_entry asked)) leg.between (entries_from leg.asked legs) legal.1 in
+    (page_right state asked rising legal.0.0, pages_right (after_all (after state (page_entry asked)) leg.between) leg.asked legs (rising_after (after state (page_entry asked)) leg.between parts.0 rising) parts.1)
 
 -- a look-up that comes after is of the same table, where the name keeps its number
-pub looked_up : (key : Key) (name : List ℕ) (state : State) (before : Asked) (leg : Leg) (go : GoesOn before leg) → Legal state leg.between → IsUnwritten key name state leg.between → folded before.name ≡ folded name
+pub looked_up : (key : Key) (name : List ℕ) (state : State) (before : Asked) (leg : Leg) (go : GoesOn before leg) → LegalSteps state leg.between → IsUnwritten key name state leg.between → folded before.name ≡ folded name
     → table_of state.world.names name ≡ Some before.table → leg.asked.table ≡ before.table
 looked_up key name state before leg go legal unwritten folds given =
-    let legal_parts = Legal-parts state go.idle (resolve_of leg.asked ∷ go.waiting) (subst (Legal state) go.between legal) in
-    let unwritten_parts = each_append (Leaves key name) state go.idle (resolve_of leg.asked ∷ go.waiting) (subst (IsUnwritten key name state) go.between unwritten) in
+    let legal_parts = steps_parts state go.idle (resolve_of leg.asked ∷ go.waiting) (subst (LegalSteps state) go.between legal) in
+    let unwritten_parts = accepted_append (Leaves key name) state go.idle (resolve_of leg.asked ∷ go.waiting) (subst (IsUnwritten key name state) go.between unwritten) in
     let kept = unwritten_name key name state go.idle (Some before.table) legal_parts.0 unwritten_parts.0 given in
-    let resolved : Some leg.asked.table ≡ table_of (after_all state go.idle).world.names leg.asked.name = legal_parts.1.0 in
+    let resolved : Some leg.asked.table ≡ table_of (after_all state go.idle).world.names leg.asked.name = legal_parts.1.0.0.0 in
     same_Some leg.asked.table before.table (resolved ∙ (table_of-folded (after_all state go.idle).world.names leg.asked.name name (go.name ∙ folds) ∙ kept))
 
 -- a row that the query asks for, from its start on, whose key is unwritten to the last page, is one of the rows
-pub rows_whole : (key : Key) (name : List ℕ) (row : RowView) (state : State) (asked : Asked) (legs : List Leg) → AreRising state.world.rows → Legal state (entries_from asked legs) → IsFollowedFrom asked legs
+pub rows_whole : (key : Key) (name : List ℕ) (row : RowView) (state : State) (asked : Asked) (legs : List Leg) → AreRising state.world.rows → LegalSteps state (entries_from asked legs) → IsFollowedFrom asked legs
     → IsUnwritten key name state (entries_from asked legs) → folded asked.name ≡ folded name → table_of state.world.names name ≡ Some asked.table
     → row_at state.world.rows key ≡ Some row → row.key.table ≡ asked.table → matches asked.options row ≡ true → pairs_lt (pair_of row.key) (start_pair asked.options) ≡ false
     → Contains (rows_from asked legs) row
 rows_whole key name row state asked [] rising legal followed unwritten folds given here table m from =
-    let one = page_one state asked rising legal.0 in
+    let one = page_one state asked rising legal.0.0 in
     ⊎_elim
     (λ within. within)
     (λ beyond. absurd (none-some beyond.0 (sym followed ∙ beyond.1)))
     (one.whole row (row_at-found state.world.rows key row here).0 table m from)
 rows_whole key name row state asked (leg ∷ legs) rising legal followed unwritten folds given here table m from =
-    let one = page_one state asked rising legal.0 in
+    let one = page_one state asked rising legal.0.0 in
     let go = followed.0 in
     let paged = after state (page_entry asked) in
-    let parts = Legal-parts paged leg.between (entries_from leg.asked legs) legal.1 in
-    let spared = each_append (Leaves key name) paged leg.between (entries_from leg.asked legs) unwritten.1 in
+    let parts = steps_parts paged leg.between (entries_from leg.asked legs) legal.1 in
+    let spared = accepted_append (Leaves key name) paged leg.between (entries_from leg.asked legs) unwritten.1 in
     let same = looked_up key name paged asked leg go parts.0 spared.0 folds given in
     ⊎_elim
     (λ within. Contains-append_left asked.page.rows (rows_from leg.asked legs) row within)
@@ -177,15 +178,15 @@ rows_whole key name row state asked (leg ∷ legs) rising legal followed unwritt
 
 -- what a history says of a query that it has
 pub record Had (opening : State) (before : List Entry) (query : Query) : Type 0 where
-  pub first : Legal (after_all opening before) (resolve_of query.first ∷ query.waiting)
-  pub pages : Legal (at_first (after_all opening before) query) (entries_from query.first query.legs)
+  pub first : LegalSteps (after_all opening before) (resolve_of query.first ∷ query.waiting)
+  pub pages : LegalSteps (at_first (after_all opening before) query) (entries_from query.first query.legs)
   pub rising : AreRising (at_first (after_all opening before) query).world.rows
 
 pub had : (opening : State) (history before later : List Entry) (query : Query) → IsWorld opening.world → Legal opening history → history ≡ before ++ (entries_of query ++ later) → Had opening before query
 had opening history before later query world legal e =
-    let outer = Legal-parts opening before (entries_of query ++ later) (subst (Legal opening) e legal) in
-    let inner = Legal-parts (after_all opening before) (entries_of query) later outer.1 in
-    let parts = Legal-parts (after_all opening before) (resolve_of query.first ∷ query.waiting) (entries_from query.first query.legs) inner.0 in
+    let outer = steps_parts opening before (entries_of query ++ later) (subst (LegalSteps opening) e (legal_steps opening history legal)) in
+    let inner = steps_parts (after_all opening before) (entries_of query) later outer.1 in
+    let parts = steps_parts (after_all opening before) (resolve_of query.first ∷ query.waiting) (entries_from query.first query.legs) inner.0 in
     record {
       first = parts.0;
       pages = parts.1;
@@ -203,11 +204,11 @@ followed_well opening history world legal = record {
   whole = λ before later query e followed key row here table from m unwritten.
       let it = had opening history before later query world legal e in
       let state = after_all opening before in
-      let parts = each_append (Leaves key query.first.name) state (resolve_of query.first ∷ query.waiting) (entries_from query.first query.legs) unwritten in
+      let parts = accepted_append (Leaves key query.first.name) state (resolve_of query.first ∷ query.waiting) (entries_from query.first query.legs) unwritten in
       let same = (row_at-found (at_first state query).world.rows key row here).1 in
       let tables : row.key.table ≡ query.first.table = same_table row.key key same ∙ table in
       rows_whole key query.first.name row (at_first state query) query.first query.legs it.rising it.pages followed
-      parts.1 refl (unwritten_name key query.first.name state (resolve_of query.first ∷ query.waiting) (Some query.first.table) it.first parts.0 (sym it.first.0))
+      parts.1 refl (unwritten_name key query.first.name state (resolve_of query.first ∷ query.waiting) (Some query.first.table) it.first parts.0 (sym it.first.0.0.0))
       here tables m
       (sym (key_lt_in_table row.key (first_key query.first) tables) ∙ (key_lt_alike_left row.key key (first_key query.first) same ∙ not-true (key_lt key (first_key query.first)) from));
 }

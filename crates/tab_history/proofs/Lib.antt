@@ -2,6 +2,8 @@ pub mod NameLaws
 pub mod HistoryLaws
 pub mod ChangeLaws
 pub mod GroupLaws
+pub mod FloorLaws
+pub mod DoubtLaws
 pub mod FollowedLaws
 pub mod TickLaws
 pub mod StillLaws
@@ -9,3 +11,5 @@ pub mod ExampleLaws
 pub mod WorldLaws
 pub mod NumberLaws
 pub mod TablesExampleLaws
+pub mod DoubtsExampleLaws
+pub mod SplitExampleLaws

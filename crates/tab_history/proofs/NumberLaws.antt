@@ -5,6 +5,7 @@ use Rattle.std.proofs.lemmas.Bool.{true≢false}
 use Rattle.std.proofs.lemmas.List.Elements.{All-head, All-tail, All-filter, All-weaker, filter_passes}
 use Rattle.tab_keys.specs.TableNames.{folded}
 use Rattle.tab_history.specs.World.{World, Named, IsWorld, table_of, without_name}
+use Rattle.tab_history.specs.Doubts.{Accepts}
 use Rattle.tab_history.specs.Legality.{State, accepted, acted, world_after, after, after_all, Legal}
 use Rattle.tab_history.specs.Kept.{HasTablesBelow}
 use Rattle.tab_history.specs.Numbers.{Makes, NumbersRise, IsNew, MadeNew, Drops, DropsHide}
@@ -13,22 +14,23 @@ use Rattle.tab_history.specs.declared.entries.Entry.TheVariants as entry
 use Rattle.tab_history.specs.declared.entries.Doubt.{Doubt}
 use Rattle.tab_history.specs.declared.entries.Doubt.TheVariants as doubt
 use Rattle.tab_history.proofs.NameLaws.{is_named, All-with_name}
-use Rattle.tab_history.proofs.HistoryLaws.{Acts, allowed_acts, kept, after_all-append, Legal-parts}
-use Rattle.tab_history.proofs.WorldLaws.{worlds_stay}
+use Rattle.tab_history.proofs.DoubtLaws.{LegalSteps, legal_steps}
+use Rattle.tab_history.proofs.HistoryLaws.{kept, after_all-append, steps_parts}
+use Rattle.tab_history.proofs.WorldLaws.{worlds_stay_by}
 
 -- ---- the next number
 
-acted-next : (n : ℕ) (world : World) (operation : Doubt) → Acts world operation → n ≤ world.next_table → n ≤ (acted world operation).next_table
+acted-next : (n : ℕ) (world : World) (operation : Doubt) → Accepts world operation → n ≤ world.next_table → n ≤ (acted world operation).next_table
 acted-next n world (doubt.Change table group tick) a h = h
 acted-next n world (doubt.Create name table) a h = let next : table ≡ world.next_table = a.1 in omega (arith, next, h)
 acted-next n world (doubt.Drop name) a h = h
 
 -- the next number never falls
-next_after : (n : ℕ) (state : State) (entries : List Entry) → Legal state entries → n ≤ state.world.next_table → n ≤ (after_all state entries).world.next_table
+next_after : (n : ℕ) (state : State) (entries : List Entry) → LegalSteps state entries → n ≤ state.world.next_table → n ≤ (after_all state entries).world.next_table
 next_after n = kept (λ world. n ≤ world.next_table) (acted-next n)
 
 -- a table is made with the next number, which is one more behind it
-made : (number : ℕ) (world : World) (operation : Option Doubt) → IfSome operation (Acts world) → IsSomeAnd operation (Makes number) → (number ≡ world.next_table) × ((world_after world operation).next_table ≡ number + 1)
+made : (number : ℕ) (world : World) (operation : Option Doubt) → IfSome operation (Accepts world) → IsSomeAnd operation (Makes number) → (number ≡ world.next_table) × ((world_after world operation).next_table ≡ number + 1)
 made number world None a makes = absurd makes
 made number world (Some (doubt.Change table group tick)) a makes = absurd makes
 made number world (Some (doubt.Create name table)) a makes = (sym makes ∙ a.1, ap (λ n. n + 1) makes)
@@ -36,13 +38,13 @@ made number world (Some (doubt.Drop name)) a makes = absurd makes
 
 pub numbers_rise : (opening : State) (history : List Entry) → Legal opening history → NumbersRise opening history
 numbers_rise opening history legal before between later first second number next e makes again =
-    let outer = Legal-parts opening before (first ∷ (between ++ (second ∷ later))) (subst (Legal opening) e legal) in
+    let outer = steps_parts opening before (first ∷ (between ++ (second ∷ later))) (subst (LegalSteps opening) e (legal_steps opening history legal)) in
     let state = after_all opening before in
-    let inner = Legal-parts (after state first) between (second ∷ later) outer.1.1 in
+    let inner = steps_parts (after state first) between (second ∷ later) outer.1.1 in
     let reached = after_all (after state first) between in
-    let past : (after state first).world.next_table ≡ number + 1 = (made number state.world (accepted state.doubts first) (allowed_acts state first outer.1.0) makes).1 in
+    let past : (after state first).world.next_table ≡ number + 1 = (made number state.world (accepted state.doubts first) outer.1.0.1 makes).1 in
     let rises : number + 1 ≤ reached.world.next_table = next_after (number + 1) (after state first) between inner.0 (omega (arith, past)) in
-    let from : next ≡ reached.world.next_table = (made next reached.world (accepted reached.doubts second) (allowed_acts reached second inner.1.0)
+    let from : next ≡ reached.world.next_table = (made next reached.world (accepted reached.doubts second) inner.1.0.1
     (subst (λ (it : State). IsSomeAnd (accepted it.doubts second) (Makes next)) (after_all-append opening before (first ∷ between)) again)).0 in
     omega (arith, rises, from)
 
@@ -59,10 +61,10 @@ is_new world number h low = record {
 
 pub made_new : (opening : State) (history : List Entry) → IsWorld opening.world → HasTablesBelow opening → Legal opening history → MadeNew opening history
 made_new opening history world told legal before later entry number e makes =
-    let parts = Legal-parts opening before (entry ∷ later) (subst (Legal opening) e legal) in
+    let parts = steps_parts opening before (entry ∷ later) (subst (LegalSteps opening) e (legal_steps opening history legal)) in
     let state = after_all opening before in
-    let next : number ≡ state.world.next_table = (made number state.world (accepted state.doubts entry) (allowed_acts state entry parts.1.0) makes).0 in
-    is_new state.world number (worlds_stay opening before world told parts.0).0 (omega (arith, next))
+    let next : number ≡ state.world.next_table = (made number state.world (accepted state.doubts entry) parts.1.0.1 makes).0 in
+    is_new state.world number (worlds_stay_by opening before world told parts.0).0 (omega (arith, next))
 
 -- ---- a name that was dropped
 
@@ -70,7 +72,7 @@ made_new opening history world told legal before later entry number e makes =
 abbrev IsLater : ℕ → List ℕ → World → Type 0
 IsLater n name world = (n ≤ world.next_table) × All (λ named. is_named name named ≡ true → n ≤ named.table) world.names
 
-acted-later : (n : ℕ) (name : List ℕ) (world : World) (operation : Doubt) → Acts world operation → IsLater n name world → IsLater n name (acted world operation)
+acted-later : (n : ℕ) (name : List ℕ) (world : World) (operation : Doubt) → Accepts world operation → IsLater n name world → IsLater n name (acted world operation)
 unfolding without_name
 acted-later n name world (doubt.Change table group tick) a h = h
 acted-later n name world (doubt.Create own table) a h =
@@ -118,11 +120,11 @@ all_new world (Some number) h low = is_new world number h low
 
 pub drops_hide : (opening : State) (history : List Entry) → IsWorld opening.world → HasTablesBelow opening → Legal opening history → DropsHide opening history
 drops_hide opening history world told legal before between later drop ask name again table e drops folds =
-    let outer = Legal-parts opening before (drop ∷ (between ++ (entry.Resolve ask again table ∷ later))) (subst (Legal opening) e legal) in
+    let outer = steps_parts opening before (drop ∷ (between ++ (entry.Resolve ask again table ∷ later))) (subst (LegalSteps opening) e (legal_steps opening history legal)) in
     let state = after_all opening before in
-    let inner = Legal-parts (after state drop) between (entry.Resolve ask again table ∷ later) outer.1.1 in
+    let inner = steps_parts (after state drop) between (entry.Resolve ask again table ∷ later) outer.1.1 in
     let reached = after_all (after state drop) between in
     let n = state.world.next_table in
     let is_later = kept (IsLater n name) (acted-later n name) (after state drop) between inner.0 (dropped-later name state.world (accepted state.doubts drop) drops) in
-    all_new state.world table (worlds_stay opening before world told outer.0).0
-    (subst (λ (found : Option ℕ). IfSome found (λ number. n ≤ number)) (sym inner.1.0) (found_later n name again reached.world.names folds is_later.1))
+    all_new state.world table (worlds_stay_by opening before world told outer.0).0
+    (subst (λ (found : Option ℕ). IfSome found (λ number. n ≤ number)) (sym inner.1.0.0.0) (found_later n name again reached.world.names folds is_later.1))

@@ -26,7 +26,8 @@ use Rattle.tab_history.specs.Legality.{State, bounds_after, world_after, after, 
 use Rattle.tab_history.specs.Followed.{Asked, Leg, Query, resolve_of, page_entry, entries_from, entries_of, rows_from, rows_of, IsFollowedFrom, IsFollowed, at_first, Leaves, IsUnwritten, IsStill, pair_lt, first_key, is_answer, is_in_window, HasAllBounds, FollowedStill}
 use Rattle.tab_history.specs.declared.entries.Entry.{Entry}
 use Rattle.tab_history.proofs.FollowedLaws.{pair_total, row_at-own, page_one, rows_start, rows_rise, looked_up, rows_whole, Had, had, Rises}
-use Rattle.tab_history.proofs.HistoryLaws.{Legal-parts, rising_after, unwritten_name}
+use Rattle.tab_history.proofs.DoubtLaws.{LegalSteps}
+use Rattle.tab_history.proofs.HistoryLaws.{steps_parts, rising_after, unwritten_name}
 
 -- ---- what stays where no operation is accepted
 
@@ -46,19 +47,19 @@ still_world state [] still = refl
 still_world state (entry ∷ entries) still = still_world (after state entry) entries still.1 ∙ ap (world_after state.world) still.0
 
 -- each row is one of the world at the first page, of its table, and one that the query asks for
-still_right : (name : List ℕ) (state : State) (asked : Asked) (legs : List Leg) → AreRising state.world.rows → Legal state (entries_from asked legs) → IsFollowedFrom asked legs → IsStill state (entries_from asked legs)
+still_right : (name : List ℕ) (state : State) (asked : Asked) (legs : List Leg) → AreRising state.world.rows → LegalSteps state (entries_from asked legs) → IsFollowedFrom asked legs → IsStill state (entries_from asked legs)
     → folded asked.name ≡ folded name → table_of state.world.names name ≡ Some asked.table
     → (row : RowView) → Contains (rows_from asked legs) row → Contains state.world.rows row × (row.key.table ≡ asked.table) × (matches asked.options row ≡ true)
-still_right name state asked [] rising legal followed still folds given row within = (page_one state asked rising legal.0).right row within
+still_right name state asked [] rising legal followed still folds given row within = (page_one state asked rising legal.0.0).right row within
 still_right name state asked (leg ∷ legs) rising legal followed still folds given row within =
     let go = followed.0 in
     let paged = after state (page_entry asked) in
-    let parts = Legal-parts paged leg.between (entries_from leg.asked legs) legal.1 in
+    let parts = steps_parts paged leg.between (entries_from leg.asked legs) legal.1 in
     let stills = still_parts paged leg.between (entries_from leg.asked legs) still.1 in
     let unwritten = still_unwritten (first_key asked) name paged leg.between stills.0 in
     let same = looked_up (first_key asked) name paged asked leg go parts.0 unwritten folds given in
     ⊎_elim
-    (λ here. (page_one state asked rising legal.0).right row here)
+    (λ here. (page_one state asked rising legal.0.0).right row here)
     (λ there.
     let later = still_right name (after_all paged leg.between) leg.asked legs (rising_after paged leg.between parts.0 rising) parts.1 followed.1 stills.1 (go.name ∙ folds)
     (unwritten_name (first_key asked) name paged leg.between (Some asked.table) parts.0 unwritten given ∙ ap Some (sym same)) row there in (
@@ -87,7 +88,7 @@ pairs_one_way : (x y : RowView) → Rises x y → Rises y x → ⊥
 pairs_one_way x y h k = true≢false (sym k ∙ lt_asymmetric pair_total (pair_of x.key) (pair_of y.key) h)
 
 -- the rows of a query that is followed in a still world
-still_rows : (state : State) (asked : Asked) (legs : List Leg) → AreRising state.world.rows → Legal state (entries_from asked legs) → IsFollowedFrom asked legs → IsStill state (entries_from asked legs)
+still_rows : (state : State) (asked : Asked) (legs : List Leg) → AreRising state.world.rows → LegalSteps state (entries_from asked legs) → IsFollowedFrom asked legs → IsStill state (entries_from asked legs)
     → table_of state.world.names asked.name ≡ Some asked.table → rows_from asked legs ≡ filter (is_answer asked) state.world.rows
 still_rows state asked legs rising legal followed still given =
     same_rising Rises pairs_apart pairs_one_way (rows_from asked legs) (filter (is_answer asked) state.world.rows)
@@ -157,7 +158,7 @@ abbrev Counted : List Bound → ℕ → List RowView → ℕ → Options → Typ
 Counted ever legs rows table options =
     Count options.top (length (matches_ahead rows table options)) (length (rows_ahead rows table options)) (length (bounds_ahead ever table options)) legs
 
-pages_counted : (name : List ℕ) (ever : List Bound) (state : State) (asked : Asked) (legs : List Leg) → AreRising state.world.rows → Legal state (entries_from asked legs) → IsFollowedFrom asked legs → IsStill state (entries_from asked legs)
+pages_counted : (name : List ℕ) (ever : List Bound) (state : State) (asked : Asked) (legs : List Leg) → AreRising state.world.rows → LegalSteps state (entries_from asked legs) → IsFollowedFrom asked legs → IsStill state (entries_from asked legs)
     → folded asked.name ≡ folded name → table_of state.world.names name ≡ Some asked.table → HasAllBounds ever state (entries_from asked legs)
     → Counted ever (length legs) state.world.rows asked.table asked.options
 pages_counted name ever state asked [] rising legal followed still folds given bounds =
@@ -165,7 +166,7 @@ pages_counted name ever state asked [] rising legal followed still folds given b
 pages_counted name ever state asked (leg ∷ legs) rising legal followed still folds given bounds =
     let go = followed.0 in
     let paged = after state (page_entry asked) in
-    let parts = Legal-parts paged leg.between (entries_from leg.asked legs) legal.1 in
+    let parts = steps_parts paged leg.between (entries_from leg.asked legs) legal.1 in
     let stills = still_parts paged leg.between (entries_from leg.asked legs) still.1 in
     let unwritten = still_unwritten (first_key asked) name paged leg.between stills.0 in
     let same = looked_up (first_key asked) name paged asked leg go parts.0 unwritten folds given in
@@ -177,7 +178,7 @@ pages_counted name ever state asked (leg ∷ legs) rising legal followed still f
     let in_table : Counted ever (length legs) state.world.rows asked.table leg.asked.options =
     subst (λ table. Counted ever (length legs) state.world.rows table leg.asked.options) same in_world in
     one_more asked.options.top _ _ _ _ _ _ (length legs)
-    (page_uses_up state.world.rows rising state.bounds asked.table asked.options ever bounds.0 go.token (sym (ap (λ page. page.next) legal.0.1) ∙ go.next))
+    (page_uses_up state.world.rows rising state.bounds asked.table asked.options ever bounds.0 go.token (sym (ap (λ page. page.next) legal.0.0.1) ∙ go.next))
     (subst (Counted ever (length legs) state.world.rows asked.table) go.options in_table)
 
 -- a row of a table is not below the table's first key
@@ -255,7 +256,7 @@ module _ (opening : State) (history : List Entry) (world : IsWorld opening.world
   named : table_of first_state.world.names query.first.name ≡ Some query.first.table
   named =
       unwritten_name (first_key query.first) query.first.name (after_all opening before) (resolve_of query.first ∷ query.waiting) (Some query.first.table) it.first
-      (still_unwritten (first_key query.first) query.first.name (after_all opening before) (resolve_of query.first ∷ query.waiting) stills.0) (sym it.first.0)
+      (still_unwritten (first_key query.first) query.first.name (after_all opening before) (resolve_of query.first ∷ query.waiting) stills.0) (sym it.first.0.0.0)
 
   all_answers : rows_of query ≡ filter (is_answer query.first) first_state.world.rows
   all_answers = still_rows first_state query.first query.legs it.rising it.pages followed stills.1 named

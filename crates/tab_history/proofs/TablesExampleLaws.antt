@@ -11,9 +11,11 @@ use Rattle.tab_rows.specs.Rows.{RowView, row_at, with_row}
 use Rattle.tab_page.proofs.RisingLists.{AllPairs-nil}
 use Rattle.tab_ops.specs.Changes.{group_keys}
 use Rattle.tab_history.specs.World.{Named, IsWorld, table_of, with_name, without_name, names_from, floor_of, MayHaveTick}
-use Rattle.tab_history.specs.Legality.{after_all, table_for, Legal}
+use Rattle.tab_history.specs.Doubts.{SparesKeys, SparesNames, EachDoubt}
+use Rattle.tab_history.specs.Legality.{after_all, table_for, EachAllowed, Legal}
 use Rattle.tab_history.specs.TablesExample.{nothing, insert_of_p, row_of_p, making, listing, filling, dropping, making_again, left}
-use Rattle.tab_history.proofs.HistoryLaws.{Legal-append}
+use Rattle.tab_history.proofs.DoubtLaws.{no_doubts, none_open}
+use Rattle.tab_history.proofs.HistoryLaws.{each_append}
 
 pub nothing_world : IsWorld nothing.world
 nothing_world = record {
@@ -25,13 +27,16 @@ nothing_world = record {
   ticks_below = All-nil (λ (row : RowView). row.tick < floor_of nothing.world.floors row.key);
 }
 
-made : Legal nothing making
-unfolding table_of with_name name_cmp folded
-made = ((refl, refl), ((refl, refl), (refl, tt)))
+named : EachDoubt SparesNames []
+named = no_doubts SparesNames
 
-listed : Legal (after_all nothing making) listing
+made : EachAllowed nothing making
+unfolding table_of with_name name_cmp folded
+made = ((refl, refl, named), ((refl, refl, named), ((refl, named), tt)))
+
+listed : EachAllowed (after_all nothing making) listing
 unfolding with_name names_from name_cmp folded
-listed = ((refl, refl), ((refl, refl), tt))
+listed = ((refl, refl, named), ((refl, refl, named), tt))
 
 floor : floor_of nothing.world.floors row_of_p.key ≡ 0
 unfolding floor_of
@@ -46,24 +51,26 @@ may_have = record {
   in_time = omega arith;
 }
 
-filled : Legal (after_all nothing (making ++ listing)) filling
+filled : EachAllowed (after_all nothing (making ++ listing)) filling
 unfolding table_of table_for with_name name_cmp folded row_at with_row
-filled = (refl, ((refl, (row_of_p ∷ [], refl), may_have), tt))
+filled = ((refl, named), ((refl, (row_of_p ∷ [], refl), may_have, no_doubts (SparesKeys (group_keys 1 (insert_of_p ∷ [])))), tt))
 
-dropped : Legal (after_all nothing (making ++ listing ++ filling)) dropping
+dropped : EachAllowed (after_all nothing (making ++ listing ++ filling)) dropping
 unfolding table_of with_name without_name name_cmp folded
-dropped = (refl, (refl, (refl, tt)))
+dropped = ((refl, named), ((refl, named), ((refl, named), tt)))
 
-made_again : Legal (after_all nothing (making ++ listing ++ filling ++ dropping)) making_again
+made_again : EachAllowed (after_all nothing (making ++ listing ++ filling ++ dropping)) making_again
 unfolding table_of table_for with_name without_name name_cmp folded row_at with_row key_cmp text_cmp units_of chars
-made_again = ((refl, refl), (refl, ((refl, refl), tt)))
+made_again = ((refl, refl, named), ((refl, named), ((refl, refl, no_doubts (SparesKeys (record { table = 3; pk = 112 ∷ []; rk = [] } ∷ []))), tt)))
 
 pub tables_legal : Legal nothing (making ++ listing ++ filling ++ dropping ++ making_again)
-tables_legal =
-    Legal-append nothing making (listing ++ filling ++ dropping ++ making_again) made
-    (Legal-append (after_all nothing making) listing (filling ++ dropping ++ making_again) listed
-    (Legal-append (after_all nothing (making ++ listing)) filling (dropping ++ making_again) filled
-    (Legal-append (after_all nothing (making ++ listing ++ filling)) dropping making_again dropped made_again)))
+tables_legal = record {
+  doubts = none_open nothing.world;
+  steps = each_append nothing making (listing ++ filling ++ dropping ++ making_again) made
+      (each_append (after_all nothing making) listing (filling ++ dropping ++ making_again) listed
+      (each_append (after_all nothing (making ++ listing)) filling (dropping ++ making_again) filled
+      (each_append (after_all nothing (making ++ listing ++ filling)) dropping making_again dropped made_again)));
+}
 
 pub names_left : (after_all nothing (making ++ listing ++ filling ++ dropping ++ making_again)).world.names ≡ left
 unfolding with_name without_name name_cmp folded

@@ -1,108 +1,35 @@
 -- Floors never fall, each row's tick is below its key's floor, and so the ticks of one key's changes rise.
-use Rattle.std.proofs.Common.{◌≡◌, ℕ, ◌+◌, ◌<◌, ◌≤◌, ◌⊎◌, List, [], ◌∷◌, ◌++◌, Bool, true, false, cond, not, ◌&&◌, ◌||◌, map, All, Contains, refl, sym, ap, ◌∙◌, subst, inl, inr, arith}
-use Rattle.std.specs.Prelude.{Option, Some, None, Result, Ok, Err, IfSome, IsSomeAnd, find, option_map, unwrap_or}
-use Rattle.std.specs.List.{list_any}
+use Rattle.std.proofs.Common.{◌≡◌, ℕ, ◌+◌, ◌<◌, ◌≤◌, ◌⊎◌, List, [], ◌∷◌, ◌++◌, Bool, true, false, cond, ◌||◌, All, refl, sym, ap, ◌∙◌, subst, inl, inr, arith}
+use Rattle.std.specs.Prelude.{Option, Some, None, Result, Ok, Err, IfSome, IsSomeAnd}
 use Rattle.std.specs.Result.{result_unwrap_or}
 use Rattle.std.proofs.lemmas.Bool.{true≢false}
 use Rattle.std.proofs.lemmas.Option.{none-some, same_Some}
-use Rattle.std.proofs.lemmas.List.Elements.{All-nil, All-cons, All-contains, All-weaker, All-head, All-tail}
+use Rattle.std.proofs.lemmas.List.Elements.{All-contains, All-weaker}
 use Rattle.tab_keys.specs.Order.{same_key}
-use Rattle.tab_keys.specs.Spans.{Interval, has}
 use Rattle.tab_keys.specs.declared.keys.Key.{Key}
-use Rattle.tab_keys.proofs.OrderLaws.{same_key_equivalence, is_before_alike}
 use Rattle.tab_edm.specs.Entities.{EntityView}
 use Rattle.tab_rows.specs.Rows.{RowView, row_at, with_row, without_row}
-use Rattle.tab_rows.proofs.RowLaws.{same_key_itself, row_at-with_row, row_at-without_row}
-use Rattle.tab_page.proofs.RisingLists.{All-from_each, Contains-cons_cases}
+use Rattle.tab_rows.proofs.RowLaws.{row_at-with_row, row_at-without_row}
+use Rattle.tab_page.proofs.RisingLists.{All-from_each}
 use Rattle.tab_ops.specs.Groups.{ItemView, item_key}
 use Rattle.tab_keys.specs.Results.{◌>>=◌}
 use Rattle.tab_ops.specs.Changes.{outcome_of, settled, rows_after, group_keys}
 use Rattle.tab_ops.specs.declared.groups.OpRefused.{OpRefused}
-use Rattle.tab_history.specs.World.{World, Floors, IsWorld, floor_of, raised}
+use Rattle.tab_history.specs.World.{World, IsWorld, floor_of, raised}
+use Rattle.tab_history.specs.Doubts.{Spares, Accepts}
 use Rattle.tab_history.specs.Legality.{State, accepted, acted, world_after, after, after_all, Legal}
-use Rattle.tab_history.specs.Followed.{Spares, IsUnchanged}
+use Rattle.tab_history.specs.Followed.{IsUnchanged}
 use Rattle.tab_history.specs.Ticks.{Changes, TicksRise, TicksTellRows}
 use Rattle.tab_history.specs.declared.entries.Entry.{Entry}
 use Rattle.tab_history.specs.declared.entries.Doubt.{Doubt}
 use Rattle.tab_history.specs.declared.entries.Doubt.TheVariants as doubt
 use Rattle.tab_history.proofs.GroupLaws.{rows_after-keep, group-all, settled-other, err_ok}
 use Rattle.tab_history.proofs.FollowedLaws.{row_at-found}
-use Rattle.tab_history.proofs.HistoryLaws.{Acts, allowed_acts, kept, after_all-append, Legal-parts, unchanged_after}
+use Rattle.tab_history.proofs.FloorLaws.{row_at-alike, floor_of-alike, any_contains, none_of_them, any_holds, changed_by, floor_of-raised_all}
+use Rattle.tab_history.proofs.DoubtLaws.{LegalSteps, legal_steps}
+use Rattle.tab_history.proofs.HistoryLaws.{kept, after_all-append, steps_parts, unchanged_after}
 
--- ---- keys that are the same
-
--- keys that are the same are told from others alike
-alike : (a b : Key) → same_key a b ≡ true → (other : Key) → same_key other a ≡ same_key other b
-alike a b h other = same_key_equivalence.symm other a ∙ (same_key_equivalence.congr a b other h ∙ same_key_equivalence.symm b other)
-
--- so they have one row
-row_at-alike : (rows : List RowView) (a b : Key) → same_key a b ≡ true → row_at rows a ≡ row_at rows b
-unfolding row_at
-row_at-alike rows a b h = λ i. find (λ row. alike a b h row.key i) rows
-
--- and one floor
-floor_of-alike : (floors : Floors) (a b : Key) → same_key a b ≡ true → floor_of floors a ≡ floor_of floors b
-unfolding floor_of
-floor_of-alike floors a b h = λ i.
-    unwrap_or (option_map (λ change. change.1) (find (λ change. alike a b h change.0 i) floors.later))
-    (unwrap_or (option_map (λ part. part.1) (find (λ part. in_span part.0 i) floors.opening)) 0)
-  where
-    in_span : (span : Interval) → has span a ≡ has span b
-    in_span span = λ i. not (is_before_alike a b span.lo h i) && is_before_alike a b span.hi h i
-
-or_true : (t : Bool) → (t || true) ≡ true
-or_true true = refl
-or_true false = refl
-
--- a key is among those of which one is the same
-any_contains : (keys : List Key) (key : Key) → Contains keys key → list_any (λ other. same_key other key) keys ≡ true
-any_contains [] key h = let below : h.0 < 0 = h.1 in absurd (omega arith)
-any_contains (first ∷ keys) key h = by_cases (any_contains keys key) (Contains-cons_cases first key keys h)
-  where
-    by_cases : (Contains keys key → list_any (λ other. same_key other key) keys ≡ true) → (first ≡ key) ⊎ Contains keys key → (same_key first key || list_any (λ other. same_key other key) keys) ≡ true
-    by_cases later (inl same) = ap (λ t. t || list_any (λ other. same_key other key) keys) (ap (λ (k : Key). same_key k key) same ∙ same_key_itself key)
-    by_cases later (inr within) = ap (λ t. same_key first key || t) (later within) ∙ or_true (same_key first key)
-
-none_of_them : (keys : List Key) (key : Key) → list_any (λ other. same_key other key) keys ≡ false → All (λ other. same_key other key ≡ false) keys
-none_of_them [] key h = All-nil (λ other. same_key other key ≡ false)
-none_of_them (first ∷ keys) key h = by_test (none_of_them keys key) (same_key first key) refl
-  where
-    by_test : (list_any (λ other. same_key other key) keys ≡ false → All (λ other. same_key other key ≡ false) keys) → (t : Bool) → same_key first key ≡ t → All (λ other. same_key other key ≡ false) (first ∷ keys)
-    by_test rest true e = absurd (true≢false (ap (λ t. t || list_any (λ other. same_key other key) keys) (sym e) ∙ h))
-    by_test rest false e = All-cons (λ other. same_key other key ≡ false) first keys e (rest (ap (λ t. t || list_any (λ other. same_key other key) keys) (sym e) ∙ h))
-
--- what holds of all keys holds at one that is the same as one of them
-any_holds : (P : Key → Type 0) (key : Key) → ((other : Key) → same_key other key ≡ true → P other → P key) → (keys : List Key) → All P keys → list_any (λ other. same_key other key) keys ≡ true → P key
-any_holds P key moves [] all h = absurd (true≢false (sym h))
-any_holds P key moves (first ∷ keys) all h = by_test (λ k. any_holds P key moves keys (All-tail P first keys all) k) (same_key first key) refl
-  where
-    by_test : (list_any (λ other. same_key other key) keys ≡ true → P key) → (t : Bool) → same_key first key ≡ t → P key
-    by_test rest true e = moves first e (All-head P first keys all)
-    by_test rest false e = rest (ap (λ t. t || list_any (λ other. same_key other key) keys) (sym e) ∙ h)
-
--- ---- floors
-
-abbrev changed_by : Key → List Key → Bool
-changed_by key keys = list_any (λ other. same_key other key) keys
-
--- the floor of a key after a change: past the tick, if the key is one of those changed
-pub floor_of-raised_all : (floors : Floors) (keys : List Key) (tick : ℕ) (key : Key) → floor_of (raised floors keys tick) key ≡ cond (changed_by key keys) (tick + 1) (floor_of floors key)
-unfolding floor_of raised
-floor_of-raised_all floors [] tick key = refl
-floor_of-raised_all floors (first ∷ keys) tick key = by_test (floor_of-raised_all floors keys tick key) (same_key first key)
-  where
-    rest : ℕ
-    rest = unwrap_or (option_map (λ part. part.1) (find (λ part. has part.0 key) floors.opening)) 0
-
-    later : Option (Key × ℕ)
-    later = find (λ (change : Key × ℕ). same_key change.0 key) (map (λ other. (other, tick + 1)) keys ++ floors.later)
-
-    by_test : unwrap_or (option_map (λ (change : Key × ℕ). change.1) later) rest ≡ cond (changed_by key keys) (tick + 1) (floor_of floors key) → (t : Bool)
-        → unwrap_or (option_map (λ (change : Key × ℕ). change.1) (cond t (Some (first, tick + 1)) later)) rest ≡ cond (t || changed_by key keys) (tick + 1) (floor_of floors key)
-    by_test ih true = refl
-    by_test ih false = ih
-
-acted-floor : (key : Key) (n : ℕ) (world : World) (operation : Doubt) → Acts world operation → n ≤ floor_of world.floors key → n ≤ floor_of (acted world operation).floors key
+acted-floor : (key : Key) (n : ℕ) (world : World) (operation : Doubt) → Accepts world operation → n ≤ floor_of world.floors key → n ≤ floor_of (acted world operation).floors key
 acted-floor key n world (doubt.Change table group tick) a h = subst (λ floor. n ≤ floor) (sym (floor_of-raised_all world.floors (group_keys table group) tick key)) (by_test (changed_by key (group_keys table group)) refl)
   where
     low : changed_by key (group_keys table group) ≡ true → floor_of world.floors key ≤ tick
@@ -115,11 +42,11 @@ acted-floor key n world (doubt.Create name table) a h = h
 acted-floor key n world (doubt.Drop name) a h = h
 
 -- no floor falls
-pub floor_after : (key : Key) (state : State) (entries : List Entry) → Legal state entries → floor_of state.world.floors key ≤ floor_of (after_all state entries).world.floors key
+pub floor_after : (key : Key) (state : State) (entries : List Entry) → LegalSteps state entries → floor_of state.world.floors key ≤ floor_of (after_all state entries).world.floors key
 floor_after key state entries legal = kept (λ world. floor_of state.world.floors key ≤ floor_of world.floors key) (acted-floor key (floor_of state.world.floors key)) state entries legal (omega arith)
 
 -- an accepted change has a tick from the key's floor on, and puts the floor past it
-changed-floor : (key : Key) (tick : ℕ) (world : World) (operation : Doubt) → Acts world operation → Changes key tick operation → (floor_of world.floors key ≤ tick) × (floor_of (acted world operation).floors key ≡ tick + 1)
+changed-floor : (key : Key) (tick : ℕ) (world : World) (operation : Doubt) → Accepts world operation → Changes key tick operation → (floor_of world.floors key ≤ tick) × (floor_of (acted world operation).floors key ≡ tick + 1)
 changed-floor key tick world (doubt.Change table group own) a changes = (
   subst (λ n. floor_of world.floors key ≤ n) changes.0
       (any_holds (λ other. floor_of world.floors other ≤ own) key (λ other same k. subst (λ floor. floor ≤ own) (floor_of-alike world.floors other key same) k) (group_keys table group) a.1 changes.1),
@@ -128,19 +55,19 @@ changed-floor key tick world (doubt.Change table group own) a changes = (
 changed-floor key tick world (doubt.Create name table) a changes = absurd changes
 changed-floor key tick world (doubt.Drop name) a changes = absurd changes
 
-entry-floor : (key : Key) (tick : ℕ) (world : World) (operation : Option Doubt) → IfSome operation (Acts world) → IsSomeAnd operation (Changes key tick) → (floor_of world.floors key ≤ tick) × (floor_of (world_after world operation).floors key ≡ tick + 1)
+entry-floor : (key : Key) (tick : ℕ) (world : World) (operation : Option Doubt) → IfSome operation (Accepts world) → IsSomeAnd operation (Changes key tick) → (floor_of world.floors key ≤ tick) × (floor_of (world_after world operation).floors key ≡ tick + 1)
 entry-floor key tick world None a changes = absurd changes
 entry-floor key tick world (Some operation) a changes = changed-floor key tick world operation a changes
 
 pub ticks_rise : (opening : State) (history : List Entry) → Legal opening history → TicksRise opening history
 ticks_rise opening history legal before between later first second key tick next e changes again =
-    let outer = Legal-parts opening before (first ∷ (between ++ (second ∷ later))) (subst (Legal opening) e legal) in
+    let outer = steps_parts opening before (first ∷ (between ++ (second ∷ later))) (subst (LegalSteps opening) e (legal_steps opening history legal)) in
     let state = after_all opening before in
-    let inner = Legal-parts (after state first) between (second ∷ later) outer.1.1 in
-    let past = (entry-floor key tick state.world (accepted state.doubts first) (allowed_acts state first outer.1.0) changes).1 in
+    let inner = steps_parts (after state first) between (second ∷ later) outer.1.1 in
+    let past = (entry-floor key tick state.world (accepted state.doubts first) outer.1.0.1 changes).1 in
     let rises = floor_after key (after state first) between inner.0 in
     let reached = after_all (after state first) between in
-    let from = (entry-floor key next reached.world (accepted reached.doubts second) (allowed_acts reached second inner.1.0)
+    let from = (entry-floor key next reached.world (accepted reached.doubts second) inner.1.0.1
     (subst (λ (it : State). IsSomeAnd (accepted it.doubts second) (Changes key next)) (after_all-append opening before (first ∷ between)) again)).0 in
     let low : tick + 1 ≤ floor_of (after_all (after state first) between).world.floors key = subst (λ n. n ≤ floor_of (after_all (after state first) between).world.floors key) past rises in
     omega (arith, low, from)
@@ -148,7 +75,7 @@ ticks_rise opening history legal before between later first second key tick next
 -- ---- ticks of rows
 
 -- each row's tick is below its key's floor
-pub acted-below : (world : World) (operation : Doubt) → Acts world operation → All (λ row. row.tick < floor_of world.floors row.key) world.rows → All (λ row. row.tick < floor_of (acted world operation).floors row.key) (acted world operation).rows
+pub acted-below : (world : World) (operation : Doubt) → Accepts world operation → All (λ row. row.tick < floor_of world.floors row.key) world.rows → All (λ row. row.tick < floor_of (acted world operation).floors row.key) (acted world operation).rows
 acted-below world (doubt.Change table group tick) a h =
     subst (λ result. All below (result_unwrap_or result world.rows)) (sym a.0.1)
     (group-all below world.rows a.0.0 table tick group
@@ -171,7 +98,7 @@ acted-below world (doubt.Change table group tick) a h =
 acted-below world (doubt.Create name table) a h = h
 acted-below world (doubt.Drop name) a h = h
 
-pub ticks_below_after : (state : State) (entries : List Entry) → Legal state entries → All (λ row. row.tick < floor_of state.world.floors row.key) state.world.rows → All (λ row. row.tick < floor_of (after_all state entries).world.floors row.key) (after_all state entries).world.rows
+pub ticks_below_after : (state : State) (entries : List Entry) → LegalSteps state entries → All (λ row. row.tick < floor_of state.world.floors row.key) state.world.rows → All (λ row. row.tick < floor_of (after_all state entries).world.floors row.key) (after_all state entries).world.rows
 ticks_below_after = kept (λ world. All (λ row. row.tick < floor_of world.floors row.key) world.rows) acted-below
 
 settled-own : (rows : List RowView) (key other : Key) (tick : ℕ) (outcome : Option EntityView) → same_key key other ≡ true → (row : RowView) → row_at (settled rows key tick outcome) other ≡ Some row → row.tick ≡ tick
@@ -215,7 +142,7 @@ group-tick key table tick (item ∷ items) index rows later changes e =
     by_outcome rest (Err refusal) f = absurd (err_ok later refusal (Err refusal) refl f)
 
 -- an operation spares a key, or the row that it leaves there has a tick from the floor on
-operation_tells : (key : Key) (world : World) (operation : Option Doubt) → IfSome operation (Acts world)
+operation_tells : (key : Key) (world : World) (operation : Option Doubt) → IfSome operation (Accepts world)
     → IfSome operation (Spares key) ⊎ ((row : RowView) → row_at (world_after world operation).rows key ≡ Some row → floor_of world.floors key ≤ row.tick)
 operation_tells key world None a = inl tt
 operation_tells key world (Some (doubt.Create name table)) a = inl tt
@@ -231,11 +158,11 @@ operation_tells key world (Some (doubt.Change table group tick)) a = by_test (ch
         omega (arith, own, from))
     by_test false e = inl (none_of_them (group_keys table group) key e)
 
-entries_tell : (key : Key) (state : State) (entries : List Entry) → Legal state entries
+entries_tell : (key : Key) (state : State) (entries : List Entry) → LegalSteps state entries
     → IsUnchanged key state entries ⊎ ((row : RowView) → row_at (after_all state entries).world.rows key ≡ Some row → floor_of state.world.floors key ≤ row.tick)
 entries_tell key state [] legal = inl tt
 entries_tell key state (entry ∷ entries) legal =
-    both (entries_tell key (after state entry) entries legal.1) (operation_tells key state.world (accepted state.doubts entry) (allowed_acts state entry legal.0))
+    both (entries_tell key (after state entry) entries legal.1) (operation_tells key state.world (accepted state.doubts entry) legal.0.1)
   where
     rises : floor_of state.world.floors key ≤ floor_of (after state entry).world.floors key
     rises = floor_after key state (entry ∷ []) (legal.0, tt)
@@ -249,8 +176,8 @@ entries_tell key state (entry ∷ entries) legal =
 
 pub ticks_tell_rows : (opening : State) (history : List Entry) → IsWorld opening.world → Legal opening history → TicksTellRows opening history
 ticks_tell_rows opening history world legal before between later key row other e here there same =
-    let outer = Legal-parts opening before (between ++ later) (subst (Legal opening) e legal) in
-    let inner = Legal-parts (after_all opening before) between later outer.1 in
+    let outer = steps_parts opening before (between ++ later) (subst (LegalSteps opening) e (legal_steps opening history legal)) in
+    let inner = steps_parts (after_all opening before) between later outer.1 in
     by_change outer.0 inner.0 (entries_tell key (after_all opening before) between inner.0)
   where
     state : State
@@ -259,7 +186,7 @@ ticks_tell_rows opening history world legal before between later key row other e
     kept_there : row_at (after_all state between).world.rows key ≡ Some other
     kept_there = ap (λ (it : State). row_at it.world.rows key) (sym (after_all-append opening before between)) ∙ there
 
-    by_change : Legal opening before → Legal state between → IsUnchanged key state between ⊎ ((found : RowView) → row_at (after_all state between).world.rows key ≡ Some found → floor_of state.world.floors key ≤ found.tick) → IsUnchanged key state between × (row ≡ other)
+    by_change : LegalSteps opening before → LegalSteps state between → IsUnchanged key state between ⊎ ((found : RowView) → row_at (after_all state between).world.rows key ≡ Some found → floor_of state.world.floors key ≤ found.tick) → IsUnchanged key state between × (row ≡ other)
     by_change first rest (inl unchanged) = (unchanged, same_Some row other (sym here ∙ (sym (unchanged_after key state between rest unchanged) ∙ kept_there)))
     by_change first rest (inr from) =
         let found = row_at-found state.world.rows key row here in

@@ -1,7 +1,7 @@
 -- Queries that are followed to their end, page by page, and what their pages give together.
 use Rattle.std.specs.Prelude.{◌≡◌, ℕ, ◌+◌, ◌/◌, ◌<◌, ◌≤◌, List, [], ◌∷◌, ◌++◌, length, filter, Bool, false, not, ◌&&◌, ◌==◌, All, AllPairs, Contains, IsTrue, IfSome, Some, None, unwrap_or, bytes_eq, ⊤}
 use Rattle.std.specs.Ordering.{ordering_then, is_lt}
-use Rattle.tab_keys.specs.Order.{text_cmp, key_lt, same_key}
+use Rattle.tab_keys.specs.Order.{text_cmp, key_lt}
 use Rattle.tab_keys.specs.TableNames.{folded}
 use Rattle.tab_keys.specs.declared.keys.Key.{Key}
 use Rattle.tab_keys.specs.declared.bounds.Bound.{Bound}
@@ -10,7 +10,7 @@ use Rattle.tab_rows.specs.Rows.{RowView, row_at}
 use Rattle.tab_page.specs.Pages.{key_at, matches, window, is_listed, most_looked_at}
 use Rattle.tab_page.specs.declared.pages.Options.{Options}
 use Rattle.tab_page.specs.declared.pages.Page.{Page}
-use Rattle.tab_ops.specs.Changes.{group_keys}
+use Rattle.tab_history.specs.Doubts.{Spares}
 use Rattle.tab_history.specs.Legality.{State, accepted, after, after_all}
 use Rattle.tab_history.specs.declared.entries.Entry.{Entry}
 use Rattle.tab_history.specs.declared.entries.Entry.TheVariants as entry
@@ -88,12 +88,6 @@ abbrev pub at_first : State → Query → State
 at_first state query = after_all state (resolve_of query.first ∷ query.waiting)
 
 -- ---- what is written meanwhile
-
--- an operation leaves the row of a key as it is
-abbrev pub Spares : Key → Doubt → Type 0
-Spares key (doubt.Change table group tick) = All (λ other. same_key other key ≡ false) (group_keys table group)
-Spares key (doubt.Create name table) = ⊤
-Spares key (doubt.Drop name) = ⊤
 
 -- what holds of each operation that is accepted on the way from a state through entries
 abbrev pub EachAccepted : (Doubt → Type 0) → State → List Entry → Type 0

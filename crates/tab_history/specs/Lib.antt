@@ -1,8 +1,12 @@
 pub mod World
+pub mod Doubts
 pub mod Legality
 pub mod Followed
 pub mod Ticks
 pub mod Numbers
 pub mod Example
 pub mod TablesExample
+pub mod DoubtsExample
+pub mod Configurations
+pub mod SplitExample
 pub mod Kept

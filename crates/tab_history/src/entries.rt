@@ -1,7 +1,7 @@
 //! The entries of a history: what the store did, one step after another.
 ghost use Rattle.std.specs.Prelude.{◌≡◌, [], ◌∷◌, ◌++◌, OnOk, OnErr};
 
-use crate::TableNames;
+use crate::{MapRefused, TableNames, Turn};
 use std::alloc::Global;
 use std::marker::Model;
 use tab_keys::{Bound, KeyText, TableName};
@@ -20,12 +20,19 @@ pub enum Denied {
     NotFound,
     /// An operation of its group was refused.
     Op(OpRefused),
+    /// The key's range is being handed over by the plan of this number, or was several times since the request was asked,
+    /// lastly by this one.
+    Busy { plan: u64 },
     /// No moment is left for the tick of a change.
     TimeSpent,
     /// No number is left for a table.
     IdsSpent,
+    /// A call of this disk failed. Where a change was asked for, it may have been made: an entry before this one says so.
+    DiskFault { disk: u64 },
     /// No memory was found.
     Memory,
+    /// At this byte of this disk stands what the store did not write.
+    Damaged { disk: u64, at: u64 },
 }
 
 /// The lower bounds of the ranges, in the order of keys.
@@ -102,6 +109,30 @@ pub enum Entry {
         ask: u64,
         why: Denied,
     },
+    /// A plan came to its next state.
+    Turn {
+        plan: u64,
+        turn: Turn,
+    },
+    /// A step of a plan, or a rewriting of a store, was refused; with the plan of which it is open since whether its commit
+    /// stands.
+    Refused {
+        why: MapRefused,
+        doubt: Option<u64>,
+    },
+    /// A device failed as an operation was written at the moment `now`: from here on it is open whether it stands.
+    Maybe {
+        ask: u64,
+        now: u64,
+        what: Doubt,
+    },
+    /// What was written was read again: the operation of the request acts here, or was never made.
+    Settled {
+        ask: u64,
+        stood: bool,
+    },
+    /// All was stopped, and what was held in memory is gone.
+    Stopped,
 }
 
 /// An operation on the world: one that was accepted, or one of which a failure left open whether it stands.

@@ -5,12 +5,15 @@
 mod asks;
 mod entries;
 mod laws;
+mod plans;
 mod table_names;
 
 pub use asks::{Ask, Reply};
 pub use entries::{Bounds, Denied, Doubt, Entry, History};
 pub use laws::{
-    a_followed_query, drops_hide, followed_queries, made_tables_are_new, still_queries,
-    table_numbers_rise, tables_that_come_and_go, ticks_rise, ticks_tell_rows, worlds_stay,
+    a_followed_query, a_range_that_is_split, doubts_stay_open, doubts_that_end_and_stay,
+    drops_hide, followed_queries, made_tables_are_new, still_queries, table_numbers_rise,
+    tables_that_come_and_go, ticks_rise, ticks_tell_rows, worlds_stay,
 };
+pub use plans::{MapRefused, PlanState, Turn};
 pub use table_names::TableNames;

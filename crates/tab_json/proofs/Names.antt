@@ -12,14 +12,14 @@ use Rattle.tab_json.specs.Bodies.{annotated_by}
 abbrev end : List ℕ
 end = codes "@odata.type"
 
-annotates : (name front : List ℕ) → name ≡ front ++ end → Some front ≡ annotated_by name
+pub annotates : (name front : List ℕ) → name ≡ front ++ end → Some front ≡ annotated_by name
 unfolding annotated_by
 annotates name front is =
     let ends : ends_with ◌==◌ name end ≡ true = (ends_is Decides-eqb name end (ends_with ◌==◌ name end) refl).1 front is in
     let long : length name - 11 ≡ length front = rw (is, length-append) (omega arith) in
     rw (ends, long, is, take-append_seam) refl
 
-annotates_none : (name : List ℕ) → ((front : List ℕ) → name ≡ front ++ end → ⊥) → None ≡ annotated_by name
+pub annotates_none : (name : List ℕ) → ((front : List ℕ) → name ≡ front ++ end → ⊥) → None ≡ annotated_by name
 unfolding annotated_by
 annotates_none name never =
     let test = (ends_is Decides-eqb name end (ends_with ◌==◌ name end) refl).0 in

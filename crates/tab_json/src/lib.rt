@@ -4,6 +4,7 @@
 mod bodies;
 mod entities;
 mod faults;
+mod laws;
 mod members_read;
 mod members_written;
 mod tables;
@@ -13,4 +14,5 @@ mod values;
 pub use bodies::{BodyEntity, JsonRefused, Properties, read_entity, read_table};
 pub use entities::{JsonForm, Version, write_entity, write_page, write_version};
 pub use faults::write_fault;
+pub use laws::{entities_are_read_back, json_texts_are_one_line};
 pub use tables::{write_table, write_tables};

@@ -1,6 +1,7 @@
 -- What groups make of rows: item by item, and as a whole.
 use Rattle.std.proofs.Common.{◌≡◌, ℕ, zero, suc, ◌+◌, List, [], ◌∷◌, Ordering, Bool, true, false, ◌&&◌, ◌||◌, cond, is_eq, length, get_or, refl, sym, ap, ◌∙◌, subst, arith, inl, inr}
 use Rattle.std.specs.Prelude.{Option, Some, None, Ok, Err, Result, All, Contains, IsFalse, IsOk, bytes_eq, nat_lt, slice_get}
+use Rattle.std.proofs.lemmas.Bool.{or_parts}
 use Rattle.std.proofs.lemmas.Option.{none-some, same_Some}
 use Rattle.std.proofs.lemmas.List.{get_or-map, length-map}
 use Rattle.std.proofs.lemmas.List.Elements.{All-nil, All-cons, All-head, All-tail, All-weaker, All-contains_itself}
@@ -10,6 +11,7 @@ use Rattle.std.specs.declared.cmp.Ordering.TheVariants.{Less, Equal, Greater}
 use Rattle.tab_keys.specs.Order.{text_cmp, key_cmp, same_key}
 use Rattle.tab_keys.specs.declared.keys.Key.{Key}
 use Rattle.tab_edm.specs.Entities.{EntityView}
+use Rattle.tab_edm.proofs.Refusals.{first_none, later_none}
 use Rattle.tab_rows.specs.Rows.{RowView, AreRising, row_at}
 use Rattle.tab_rows.proofs.RowLaws.{AreRising-with_row, AreRising-without_row, row_at-with_row, row_at-without_row, row_at-with_row_other, row_at-without_row_other, All-with_row, All-without_row}
 use Rattle.tab_keys.specs.TableNames.{folded}
@@ -284,14 +286,6 @@ not_refused first items h = by_test (nat_lt most_items (length (first ∷ items)
     doubled : Option GroupRefused
     doubled = first_doubled 0 [] (first ∷ items)
 
-    first_none : (r later : Option GroupRefused) → option_or r later ≡ None → r ≡ None
-    first_none None later e = refl
-    first_none (Some why) later e = absurd (cc)
-
-    later_none : (r later : Option GroupRefused) → option_or r later ≡ None → later ≡ None
-    later_none None later e = e
-    later_none (Some why) later e = absurd (cc)
-
     by_test : (b : Bool) → nat_lt most_items (length (first ∷ items)) ≡ b → NotRefused (first ∷ items) first
     by_test true e = let stuck : Some TooMany ≡ None = ap (λ b. cond b (Some TooMany) (option_or elsewhere doubled)) (sym e) ∙ h in absurd (cc)
     by_test false e =
@@ -303,14 +297,6 @@ pub in_one_partition : (first : ItemView) (items : List ItemView) → group_refu
 in_one_partition first items h = All-tail (λ item. item.pk ≡ first.pk) first items (beside_each 0 first (first ∷ items) (not_refused first items h).together)
 
 -- ---- rows of their own
-
-first_false : (a b : Bool) → (a || b) ≡ false → a ≡ false
-first_false false b e = refl
-first_false true b e = e
-
-second_false : (a b : Bool) → (a || b) ≡ false → b ≡ false
-second_false false b e = e
-second_false true b e = absurd (cc)
 
 -- no row key stood before, or stands twice
 record HasOwnRows (before : List (List ℕ)) (items : List ItemView) : Type 0 where
@@ -328,10 +314,10 @@ own_rows index before (item ∷ items) texts h =
     joined : list_any (λ rk. bytes_eq rk item.rk) before ≡ false → HasOwnRows (item.rk ∷ before) items → HasOwnRows before (item ∷ items)
     joined e rest = record {
       new = All-cons (λ other. list_any (λ rk. bytes_eq rk other.rk) before ≡ false) item items e
-          (All-weaker (λ other. (bytes_eq item.rk other.rk || list_any (λ rk. bytes_eq rk other.rk) before) ≡ false) (λ other. list_any (λ rk. bytes_eq rk other.rk) before ≡ false) (λ other. second_false (bytes_eq item.rk other.rk) (list_any (λ rk. bytes_eq rk other.rk) before)) items rest.new);
+          (All-weaker (λ other. (bytes_eq item.rk other.rk || list_any (λ rk. bytes_eq rk other.rk) before) ≡ false) (λ other. list_any (λ rk. bytes_eq rk other.rk) before ≡ false) (λ other h. (or_parts (bytes_eq item.rk other.rk) (list_any (λ rk. bytes_eq rk other.rk) before) h).1) items rest.new);
       apart = AllPairs-cons (λ a b. IsFalse (is_eq (text_cmp a.rk b.rk))) item items
           (λ k d within. sym (bytes_eq-is item.rk (get_or items k d).rk (All-head (λ item. IsUtf8 item.rk) item items texts) (All-tail (λ item. IsUtf8 item.rk) item items texts k d within))
-          ∙ first_false (bytes_eq item.rk (get_or items k d).rk) (list_any (λ rk. bytes_eq rk (get_or items k d).rk) before) (rest.new k d within))
+          ∙ (or_parts (bytes_eq item.rk (get_or items k d).rk) (list_any (λ rk. bytes_eq rk (get_or items k d).rk) before) (rest.new k d within)).0)
           rest.apart;
     }
 

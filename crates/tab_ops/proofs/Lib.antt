@@ -2,5 +2,6 @@ mod Lists
 mod Properties
 mod GroupLemmas
 pub mod GroupLaws
+pub mod MergeLaws
 mod Merging
 mod Planning

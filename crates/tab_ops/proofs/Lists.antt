@@ -1,8 +1,6 @@
 -- Filters of filters.
-use Rattle.std.proofs.Common.{◌≡◌, zero, suc, List, [], ◌∷◌, ◌++◌, Bool, true, false, ◌&&◌, filter, refl, sym, ap, ◌∙◌, arith}
-use Rattle.std.specs.Prelude.{All, AllPairs}
-use Rattle.std.proofs.lemmas.List.Elements.{All-head, All-tail, All-append, filter_agree}
-use Rattle.std.proofs.lemmas.List.Kept.{AllPairs-cons}
+use Rattle.std.proofs.Common.{◌≡◌, List, [], ◌∷◌, Bool, true, false, ◌&&◌, filter, refl, sym, ap, ◌∙◌}
+use Rattle.std.proofs.lemmas.List.Elements.{filter_agree}
 
 -- a filter of what a filter leaves is one filter
 filter_and : {X : Type 0} (p r : X → Bool) (xs : List X) → filter p (filter r xs) ≡ filter (λ x. r x && p x) xs

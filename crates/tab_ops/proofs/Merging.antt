@@ -8,16 +8,13 @@ use Rattle.tab_edm.specs.Values.{is_reserved, IsInTime}
 use Rattle.std.specs.List.Sorted.{IsPermutation}
 use Rattle.tab_edm.specs.declared.values.Property.{Property}
 use Rattle.tab_edm.specs.declared.entities.EdmRefused.{EdmRefused}
-use Rattle.tab_edm.proofs.Refusals.{each_allowed}
+use Rattle.tab_edm.specs.declared.entities.TheConstants.{MOST_PROPERTIES, MOST_SIZE}
+use Rattle.tab_edm.proofs.Refusals.{first_none, each_allowed}
 use Rattle.tab_ops.specs.Changes.{within_limits, merged, merge_outcome}
 use Rattle.tab_ops.specs.Merges.{is_kept, refusal_for}
 use Rattle.tab_ops.specs.declared.groups.OpRefused.{OpRefused}
 use Rattle.tab_ops.specs.declared.groups.OpRefused.TheVariants.{TooMany, TooLarge}
 use Rattle.tab_ops.proofs.Properties.{merged_all, merged_moves, merged_rising, joined_all, joined_differ}
-
-first_none : (r later : Option EdmRefused) → option_or r later ≡ None → r ≡ None
-first_none None later e = refl
-first_none (Some why) later e = absurd (cc)
 
 -- no property of an entity has a fault
 properties_allowed : (pk_units rk_units : ℕ) (ps : List Property) → IsEntity pk_units rk_units ps → All (λ p. property_refusal p ≡ None) ps
@@ -34,7 +31,7 @@ first_refusal-all (p ∷ ps) h =
 limits_of_made : (index pk_units rk_units : ℕ) (ps : List Property) (r : Result EntityView EdmRefused) → first_refusal ps ≡ None → r ≡ made pk_units rk_units ps
     → MatchResult r (λ entity. within_limits index (record { properties = ps; pk_units = pk_units; rk_units = rk_units }) ≡ Ok (Some entity)) (λ why. within_limits index (record { properties = ps; pk_units = pk_units; rk_units = rk_units }) ≡ Err (refusal_for index why))
 unfolding made entity_refusal
-limits_of_made index pk_units rk_units ps r none is = rw (is, none) (by_test (nat_lt 252 (length ps)) (nat_lt 1_048_576 (entity_size pk_units rk_units ps)))
+limits_of_made index pk_units rk_units ps r none is = rw (is, none) (by_test (nat_lt MOST_PROPERTIES (length ps)) (nat_lt MOST_SIZE (entity_size pk_units rk_units ps)))
   where
     entity : EntityView
     entity = record { properties = ps; pk_units = pk_units; rk_units = rk_units }

@@ -5,6 +5,7 @@ use Rattle.std.proofs.lemmas.List.Elements.{All-nil, All-head, All-tail, All-pus
 use Rattle.std.proofs.lemmas.List.{drop_all, drop_more, get_or-drop, length-drop, length-map, map-append, map_more, take_all}
 use Rattle.tab_keys.specs.declared.keys.Key.{Key}
 use Rattle.tab_edm.specs.Entities.{EntityView, entity_size}
+use Rattle.tab_edm.specs.declared.entities.TheConstants.{MOST_PROPERTIES, MOST_SIZE}
 use Rattle.tab_rows.specs.Rows.{RowView, row_at}
 use Rattle.tab_rows.specs.declared.changes.Change.{Change}
 use Rattle.tab_ops.specs.Groups.{ItemView, item_key, IsMadeFor, AreApart}
@@ -30,7 +31,7 @@ UnitsOf pk_units rk_units (Ok None) = Unit {0}
 UnitsOf pk_units rk_units (Err why) = Unit {0}
 
 units_within : (p r index : ℕ) (entity : EntityView) → IsFor p r entity → UnitsOf p r (within_limits index entity)
-units_within p r index entity h = by_test (nat_lt 252 (length entity.properties)) (nat_lt 1_048_576 (entity_size entity.pk_units entity.rk_units entity.properties))
+units_within p r index entity h = by_test (nat_lt MOST_PROPERTIES (length entity.properties)) (nat_lt MOST_SIZE (entity_size entity.pk_units entity.rk_units entity.properties))
   where
     by_test : (b c : Bool) → UnitsOf p r (cond b (Err (TooMany index)) (cond c (Err (TooLarge index)) (Ok (Some entity))))
     by_test true c = tt

@@ -88,7 +88,7 @@ kept_differs (q ∷ qs) p h = by_test (λ k. kept_differs qs p k) (same_name q p
     by_test later false e = All-cons (λ r. p.name ≢ r.name) q qs (λ same. true≢false (sym ((bytes_decides q.name p.name).1 (sym same)) ∙ e)) (later (parts false e))
 
 -- a property below all given ones is kept
-below_kept : (p : Property) (given : List Property) → All (λ q. IsTrue (name_lt p q)) given → is_kept given p ≡ true
+pub below_kept : (p : Property) (given : List Property) → All (λ q. IsTrue (name_lt p q)) given → is_kept given p ≡ true
 below_kept p [] h = is_kept-nil p
 below_kept p (q ∷ qs) h =
     is_kept-cons q qs p

@@ -5,6 +5,7 @@ use Rattle.tab_keys.specs.declared.keys.Key.{Key}
 use Rattle.tab_edm.specs.Entities.{EntityView, name_lt, entity_size}
 use Rattle.tab_edm.specs.declared.values.Property.{Property}
 use Rattle.tab_edm.specs.declared.TheConstants.{GREATEST}
+use Rattle.tab_edm.specs.declared.entities.TheConstants.{MOST_PROPERTIES, MOST_SIZE}
 use Rattle.tab_rows.specs.Rows.{RowView, row_at, with_row, without_row}
 use Rattle.tab_rows.specs.declared.changes.Change.{Change}
 use Rattle.tab_rows.specs.declared.changes.Change.TheVariants.{Put, Take}
@@ -35,8 +36,8 @@ merged kept (property ∷ given) = merged (with_property kept property) given
 -- an entity within the limits, or the refusal of the operation at this index
 abbrev pub within_limits : ℕ → EntityView → Result (Option EntityView) OpRefused
 within_limits index entity =
-    if nat_lt 252 (length entity.properties) then Err (TooMany index)
-    else (if nat_lt 1_048_576 (entity_size entity.pk_units entity.rk_units entity.properties) then Err (TooLarge index)
+    if nat_lt MOST_PROPERTIES (length entity.properties) then Err (TooMany index)
+    else (if nat_lt MOST_SIZE (entity_size entity.pk_units entity.rk_units entity.properties) then Err (TooLarge index)
     else Ok (Some entity))
 
 -- what a merge of an entity into a kept one makes

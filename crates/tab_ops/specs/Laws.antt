@@ -1,10 +1,12 @@
 -- What groups of operations do, whatever the rows.
 use Rattle.std.specs.Prelude.{◌≡◌, ℕ, ◌⊎◌, List, Contains, Option, Some, None, Ok, Err, slice_get}
+use Rattle.std.specs.Option.{option_or}
 use Rattle.tab_keys.specs.declared.keys.Key.{Key}
-use Rattle.tab_edm.specs.Entities.{EntityView}
+use Rattle.tab_edm.specs.Entities.{EntityView, IsRising, value_of}
 use Rattle.tab_rows.specs.Rows.{RowView, row_at}
 use Rattle.tab_ops.specs.Groups.{ItemView, item_key}
 use Rattle.tab_ops.specs.declared.groups.OpRefused.{OpRefused}
+use Rattle.tab_ops.specs.declared.groups.OpRefused.TheVariants.{TooMany, TooLarge}
 use Rattle.tab_ops.specs.Changes.{outcome_of, group_keys}
 
 -- what stands at a key after it was made this, with this tick
@@ -28,3 +30,20 @@ pub record IsRefusedByItem (rows : List RowView) (table : ℕ) (group : List Ite
   pub item : ItemView
   pub here : slice_get group index ≡ Some item
   pub refused : outcome_of index (row_at rows (item_key table item)) item.op ≡ Err why
+
+-- ---- merges
+
+-- under each name stands the given value, where one is given, and else the kept one; the names rise
+pub record IsMergeOf (kept given : EntityView) (entity : EntityView) : Type 0 where
+  pub values : (name : List ℕ) → value_of name entity.properties ≡ option_or (value_of name given.properties) (value_of name kept.properties)
+  pub rising : IsRising entity.properties
+
+-- what an accepted merge makes
+pub record MakesMerge (index : ℕ) (kept given : EntityView) (outcome : Option EntityView) : Type 0 where
+  pub entity : EntityView
+  pub is : outcome ≡ Some entity
+  pub merges : IsMergeOf kept given entity
+
+-- the merge at this index has too many properties, or is too large
+abbrev pub IsPastLimits : ℕ → OpRefused → Type 0
+IsPastLimits index why = (why ≡ TooMany index) ⊎ (why ≡ TooLarge index)

@@ -1,11 +1,12 @@
-//! Laws of groups, each the contract of a function that does nothing.
-ghost use Rattle.std.specs.Prelude.{◌≡◌, ℕ, List, ◌∷◌, All, IsFalse, None, Some, Ok, Err, IsOk, IsUtf8, slice_get};
+//! Laws of groups and of merges, each the contract of a function that does nothing.
+ghost use Rattle.std.specs.Prelude.{◌≡◌, ℕ, Option, List, ◌∷◌, All, IsFalse, None, Some, Ok, Err, IsOk, IsUtf8, slice_get};
 ghost use Rattle.tab_keys.specs.Order.{same_key};
 ghost use Rattle.tab_keys.specs.declared.keys.Key.{Key};
+ghost use Rattle.tab_edm.specs.Entities.{EntityView, IsRising};
 ghost use Rattle.tab_rows.specs.Rows.{RowView, AreRising, row_at};
 ghost use Rattle.tab_ops.specs.Groups.{ItemView, AreApart, group_refusal};
-ghost use Rattle.tab_ops.specs.Changes.{group_outcome, group_keys};
-ghost use Rattle.tab_ops.specs.Laws.{IsKeptOrPut, SawRowsBefore, IsRefusedByItem};
+ghost use Rattle.tab_ops.specs.Changes.{group_outcome, group_keys, merge_outcome};
+ghost use Rattle.tab_ops.specs.Laws.{IsKeptOrPut, SawRowsBefore, IsRefusedByItem, MakesMerge, IsPastLimits};
 ghost use Rattle.tab_ops.specs.declared.groups.OpRefused.{OpRefused};
 
 /// Whether a group is refused, and why, does not depend on the tick that it would have.
@@ -57,4 +58,16 @@ pub fn groups_act_in_one_partition()
 /// No two operations of a group have one row key, and so no two of its keys are one.
 pub fn groups_have_rows_of_their_own()
     ensures { (items : List ItemView) → All (λ item. IsUtf8 item.rk) items → group_refusal items ≡ None → AreApart items }
+{}
+
+/// A merge is refused for the number of its properties or for its size alone.
+pub fn merges_are_refused_past_limits()
+    ensures { (index : ℕ) (kept given : EntityView) (why : OpRefused) → merge_outcome index kept given ≡ Err why
+        → IsPastLimits index why }
+{}
+
+/// An accepted merge has under each name the given value, where one is given, and else the kept one.
+pub fn merges_give_values_by_name()
+    ensures { (index : ℕ) (kept given : EntityView) (outcome : Option EntityView) → IsRising kept.properties → IsRising given.properties
+        → merge_outcome index kept given ≡ Ok outcome → MakesMerge index kept given outcome }
 {}

@@ -1,5 +1,5 @@
 //! Merged entities (the Table service REST reference, "Merge Entity").
-ghost use Rattle.std.specs.Prelude.{IfErr, ◌≡◌, ◌≢◌, ◌++◌, Ok, Err, Some, MatchResult, IfOk, filter};
+ghost use Rattle.std.specs.Prelude.{IfErr, ◌≡◌, ◌++◌, Ok, Err, Some, IfOk, filter};
 ghost use Rattle.tab_keys.specs.Results.{Gives};
 ghost use Rattle.tab_edm.specs.Entities.{IsEntity};
 ghost use Rattle.tab_ops.specs.Changes.{IsTimely, merge_outcome};

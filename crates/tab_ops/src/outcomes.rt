@@ -1,5 +1,5 @@
 //! What one operation makes of a row or of its absence.
-ghost use Rattle.std.specs.Prelude.{◌≡◌, ◌≢◌, ◌≤◌, IfErr, Ok, Err, Some, None, MatchResult, if◌then◌else◌};
+ghost use Rattle.std.specs.Prelude.{◌≡◌, ◌≤◌, IfErr, Ok, Err, Some, None, if◌then◌else◌};
 ghost use Rattle.std.specs.Option.{option_copied};
 ghost use Rattle.tab_keys.specs.Results.{Gives};
 ghost use Rattle.tab_ops.specs.Changes.{meets, outcome_of, IsTimely};

@@ -1,5 +1,5 @@
 //! The changes of rows that a group comes to.
-ghost use Rattle.std.specs.Prelude.{◌≡◌, ◌≢◌, ◌≤◌, length, map, All, Ok, Err, MatchResult, IfOk, IfErr};
+ghost use Rattle.std.specs.Prelude.{◌≡◌, ◌≤◌, length, map, All, Ok, IfOk, IfErr};
 ghost use Rattle.tab_keys.specs.Results.{Gives};
 ghost use Rattle.tab_edm.specs.declared.TheConstants.{GREATEST};
 ghost use Rattle.tab_ops.specs.Groups.{IsGroup};

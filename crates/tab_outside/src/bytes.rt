@@ -53,8 +53,8 @@ pub fn grow_to(bytes: &mut Vec<u8>, size: usize) -> Result<(), Memory>
     ensures grown { OnOk result (bytes.new.items ≡ bytes.old.items ++ replicate (size - length bytes.old.items) 0) }
     ensures kept { OnErr result (bytes.new.items ≡ bytes.old.items) }
 {
-    if bytes.len() < size && bytes.resize(size, 0).is_err() {
-        return Err(Memory);
+    if bytes.len() < size {
+        bytes.resize(size, 0)?;
     }
     Ok(())
 }

@@ -11,8 +11,11 @@ pub trait Disk {
     /// How many of its calls have failed.
     ghost faults: { Self → ℕ };
 
-    /// That it is an honest disk: it keeps what was synced, and doubts nothing but what was written since. No value
-    /// stands here for a disk that tells nothing of its content.
+    /// That it tells its content: a read gives what it holds. No value stands here for a disk that tells nothing.
+    ghost tells: { Type 0 };
+
+    /// That it is an honest disk, which tells its content, keeps what was synced, and doubts nothing but what was
+    /// written since.
     ghost honest: { Type 0 };
 
     /// That it never fails. No value stands here for a disk that may.
@@ -29,7 +32,7 @@ pub trait Disk {
 
     /// The number of bytes.
     fn len(&mut self) -> Result<u64, Failed>
-        ensures length { honest → IfOk result (λ n. n ≡ length (watch.seen self.old)) }
+        ensures length { tells → IfOk result (λ n. n ≡ length (watch.seen self.old)) }
         ensures rests { honest → Rests watch self.old self.new }
         ensures cause { HasCause (faults self.old) (faults self.new) result }
         ensures armed { MeetsArmed (armed self.old) (armed self.new) result }
@@ -39,8 +42,8 @@ pub trait Disk {
     /// the buffer holds exactly at the end of the disk. What a read that fails leaves in the buffer is free.
     fn read_at(&mut self, at: u64, buf: &mut [u8]) -> Result<usize, Failed>
         ensures bound { IfOk result (λ n. n ≤ length buf.old) }
-        ensures count { honest → IfOk result (λ n. n ≡ min (length (drop at (watch.seen self.old))) (length buf.old)) }
-        ensures bytes { honest → IfOk result (λ n. take n buf.new ≡ take n (drop at (watch.seen self.old))) }
+        ensures count { tells → IfOk result (λ n. n ≡ min (length (drop at (watch.seen self.old))) (length buf.old)) }
+        ensures bytes { tells → IfOk result (λ n. take n buf.new ≡ take n (drop at (watch.seen self.old))) }
         ensures rests { honest → Rests watch self.old self.new }
         ensures cause { HasCause (faults self.old) (faults self.new) result }
         ensures armed { MeetsArmed (armed self.old) (armed self.new) result }
@@ -118,8 +121,11 @@ pub trait Disk {
     /// A sure disk counts no fault.
     ghost never_fails: { sure → (disk : Self) → faults disk ≡ 0 };
 
+    /// An honest disk tells its content.
+    ghost honest_tells: { honest → tells };
+
     /// A sure disk tells nothing of its content.
-    ghost tells_nothing: { sure → honest → ⊥ };
+    ghost tells_nothing: { sure → tells → ⊥ };
 
     /// A disk without stops has none armed.
     ghost never_armed: { (disk : Self) → has_stops disk ≡ false → armed disk ≡ unarmed };

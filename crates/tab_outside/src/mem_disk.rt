@@ -50,6 +50,7 @@ impl MemDisk {
     /// An empty disk. Of the calls of `len`, `read_at`, `write_at` and `sync`, counted together from 1, those
     /// whose numbers are in `fails` fail.
     pub fn new(alloc: Global, fails: Vec<u64>) -> MemDisk
+        ensures honest { ⟦<MemDisk as Disk>⟧.honest }
         ensures faults { ⟦<MemDisk as Disk>⟧.faults result ≡ 0 }
         ensures log { result.log ≡ [] }
         ensures calls { result.calls ≡ no_calls fails.items }
@@ -146,6 +147,8 @@ fn end_of(at: usize, piece: &[u8]) -> usize
 
 impl Disk for MemDisk {
     ghost faults = { λ disk. disk.calls.faults };
+
+    ghost tells = { Unit {0} };
 
     ghost honest = { Unit {0} };
 
@@ -271,6 +274,8 @@ impl Disk for MemDisk {
     ghost only_now = { λ _ disk. only_now disk.log };
 
     ghost reads_image = { λ _ disk. reads_image disk.log };
+
+    ghost honest_tells = { λ honest. honest };
 
     ghost never_fails = { λ none _. absurd none };
 

@@ -100,3 +100,35 @@ fn of_two_stops_the_sooner_counts_and_of_two_failures_the_later(
     assert_eq!(rt; disk.write_at((1 << 62) - 1, b"ab"), Err(Failed));
     Ok(())
 }
+
+#[test]
+fn each_read_fails_or_stops_and_leaves_what_was_lent(rt: HostRuntime) -> Result<(), Fail> {
+    for stops in [false, true] {
+        for armed in 1..=4_u64 {
+            let mut disk = MemDisk::new(rt.alloc(), Vec::new(rt.alloc()));
+            assert_eq!(rt; disk.write_at(0, b"abcd"), Ok(()));
+            let has = if stops {
+                disk.arm_stop(armed)
+            } else {
+                disk.arm_fail(armed)
+            };
+            assert!(rt; has);
+            for (at, count, rest) in [(1, 3, *b"bcd--"), (2, 2, *b"cd---"), (3, 1, *b"d----")] {
+                let fails = at == armed || (stops && armed < at);
+                let mut buf = *b"-----";
+                let read = disk.read_at(at, &mut buf);
+                assert_eq!(rt;
+                    read,
+                    if fails { Err(Failed) } else { Ok(count) },
+                    "{at} of {armed}"
+                );
+                assert_eq!(rt;
+                    buf,
+                    if fails { *b"-----" } else { rest },
+                    "{at} of {armed}"
+                );
+            }
+        }
+    }
+    Ok(())
+}

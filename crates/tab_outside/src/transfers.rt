@@ -6,8 +6,7 @@ ghost use Rattle.tab_outside.specs.Transfers.{ReadsByte, TookFront, Moved};
 
 use crate::{Failed, Sink, Source};
 
-// The most room that is asked for before the bytes for it have come, so that a length which was only
-// announced takes no memory.
+// How many bytes `fill` makes room for and reads at a time.
 const PIECE: usize = 65_536;
 
 /// Why fewer bytes were read than asked for.

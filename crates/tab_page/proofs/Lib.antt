@@ -10,3 +10,4 @@ pub mod TopLaws
 pub mod RisingLists
 pub mod OnePageLaws
 pub mod PageCounts
+pub mod ContinuationLaws

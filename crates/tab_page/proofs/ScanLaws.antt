@@ -1,8 +1,8 @@
 -- A scan through rows, of which some are listed: what was found among the first of those, and how many are left to look at.
 use Rattle.std.proofs.Common.{◌≡◌, ℕ, zero, suc, ◌+◌, ◌-◌, ◌<◌, ◌≤◌, ◌⊎◌, inl, inr, List, [], ◌∷◌, ◌++◌, length, take, drop, filter, Bool, true, false, cond, ◌||◌, ◌==◌, Option, Some, None, refl, sym, ap, ◌∙◌, subst, arith, add-one, length-append}
-use Rattle.std.specs.Prelude.{All, AllPairs, slice_get}
+use Rattle.std.specs.Prelude.{All, slice_get}
 use Rattle.std.proofs.lemmas.Bool.{eq-eqb, ne_eqb, true≢false}
-use Rattle.std.proofs.lemmas.List.Elements.{All-head, All-tail, All-weaker, filter-append}
+use Rattle.std.proofs.lemmas.List.Elements.{All-head, All-weaker, filter-append}
 use Rattle.std.proofs.Math.Nat.{sub-zero, zero-add}
 use Rattle.tab_keys.specs.Order.{key_lt}
 use Rattle.tab_keys.specs.declared.keys.Key.{Key}

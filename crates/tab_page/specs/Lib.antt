@@ -4,3 +4,4 @@ pub mod QueryOptions
 pub mod Tokens
 pub mod Scans
 pub mod Prefixes
+pub mod Continuations

@@ -2,6 +2,7 @@
 //! next one begins.
 #![tactic(auto)]
 
+mod laws;
 mod page_rule;
 mod pages;
 mod queries;
@@ -9,6 +10,7 @@ mod query_options;
 mod selects;
 mod tokens;
 
+pub use laws::{queries_go_on_where_tokens_say, tokens_are_handed_back};
 pub use page_rule::{page, page_prefix, start_key};
 pub use pages::{Options, Page, PageRows};
 pub use queries::{OptionRefused, read_top, top_is_a_decimal};

@@ -76,6 +76,7 @@ impl Rows {
         ensures rows { self.new.rows ≡ with_row self.old.rows row }
         ensures before { result ≡ row_at self.old.rows row.key }
         ensures spare { self.old.spare ≤ self.new.spare + 1 }
+        ensures room { self.new.spare + length self.new.rows ≡ self.old.spare + length self.old.rows }
     {
         match find_index(self.rows.as_slice(), &row.key) {
             Ok(index) => Some(mem::replace(&mut self.rows[index], row)),
@@ -91,6 +92,7 @@ impl Rows {
         ensures rows { self.new.rows ≡ without_row self.old.rows key.now }
         ensures before { result ≡ row_at self.old.rows key.now }
         ensures spare { self.old.spare ≤ self.new.spare }
+        ensures room { self.new.spare + length self.new.rows ≡ self.old.spare + length self.old.rows }
     {
         match find_index(self.rows.as_slice(), key) {
             Ok(index) => Some(self.rows.remove(index)),

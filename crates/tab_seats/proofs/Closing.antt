@@ -1,8 +1,7 @@
 -- Seats and passes that an office takes in as it closes: what each knows is known in the end, and their calls and permits add up.
-use Rattle.std.proofs.Common.{◌≡◌, ℕ, zero, suc, ◌+◌, ◌<◌, ◌≤◌, List, [], ◌∷◌, ◌++◌, length, max, refl, sym, ◌∙◌, ap, subst, arith, length-append, get_or}
+use Rattle.std.proofs.Common.{◌≡◌, ℕ, zero, suc, ◌+◌, ◌≤◌, List, [], ◌∷◌, ◌++◌, length, max, refl, ap, arith}
 use Rattle.std.specs.List.{sum_by, All}
 use Rattle.std.proofs.lemmas.List.Sums.{sum_by_push}
-use Rattle.tab_seats.specs.declared.views.View.{View}
 use Rattle.tab_seats.specs.Logs.{next_number}
 use Rattle.tab_seats.specs.Views.{after_meet}
 use Rattle.tab_seats.specs.Offices.{OfficeId, MemberView}

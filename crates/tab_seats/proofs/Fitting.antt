@@ -1,12 +1,8 @@
 -- Each view that a step makes fits the strokes, as the views fit from which it is made.
-use Rattle.std.proofs.Common.{◌≡◌, ℕ, zero, suc, ◌+◌, ◌-◌, ◌%◌, ◌^◌, ◌<◌, ◌≤◌, ◌≢◌, ◌⊎◌, Bool, true, false, cond, not, ◌&&◌, List, [], ◌∷◌, ◌++◌, length, set, max, refl, sym, ◌∙◌, ap, subst, inl, inr, ⊎_elim, arith, Option, Some, None, length-append}
-use Rattle.std.specs.Prelude.{nat_lt, nat_le, ◌==◌, slice_index, slice_set, IsTrue}
-use Rattle.std.specs.List.{sum_by}
+use Rattle.std.proofs.Common.{◌≡◌, ℕ, zero, suc, ◌+◌, ◌<◌, ◌≤◌, ◌⊎◌, Bool, true, false, not, ◌&&◌, List, [], ◌∷◌, ◌++◌, length, refl, sym, ◌∙◌, ap, subst, inl, inr, ⊎_elim, arith, Option, Some, None, length-append}
 use mathlib.Core.Option.{some, some-injective, some-ne-none}
 use lib.ListN.{get_elem?}
-use Rattle.std.proofs.lemmas.Bool.Decides.{nat_tests}
-use Rattle.std.proofs.lemmas.List.Sums.{sum_by_push, sum_by-cons}
-use Rattle.atomic_table.proofs.Lists.{at_set, at_snoc, at_longer}
+use Rattle.atomic_table.proofs.Lists.{at_longer}
 use Rattle.tab_keys.specs.declared.keys.Key.{Key}
 use Rattle.tab_keys.specs.declared.bounds.Bound.{Bound}
 use Rattle.tab_keys.specs.Order.{is_before, bound_lt}
@@ -14,10 +10,10 @@ use Rattle.tab_keys.specs.Spans.{Interval, has}
 use Rattle.tab_seats.specs.declared.views.Stroke.{Stroke}
 use Rattle.tab_seats.specs.declared.views.LogCopy.{LogCopy}
 use Rattle.tab_seats.specs.declared.views.View.{View}
-use Rattle.tab_seats.specs.Lists.{In, one_if, times, RisesBy, first_of, rest_of}
-use Rattle.tab_seats.specs.Logs.{IsByNumber, AreRising, next_number, with_stroke, with_strokes, with_right, with_rights, last_right, other_rights}
-use Rattle.tab_seats.specs.Views.{Knows, copy_of, covers, both_spans, from_to, below_cut, above_cut, spent_view, seat_over, less_permits, new_pass, slip_at, slip_of, after_heed, after_draw, with_copy, left_by_note, leaving_note, note_of, after_note, after_meet, after_fuse, joined_seats, left_half, right_half}
-use Rattle.tab_seats.specs.Rule.{FitsCopy, Fits, SeatRule, WordTells}
+use Rattle.tab_seats.specs.Lists.{In, one_if, first_of, rest_of}
+use Rattle.tab_seats.specs.Logs.{next_number}
+use Rattle.tab_seats.specs.Views.{copy_of, covers, both_spans, from_to, below_cut, above_cut, spent_view, less_permits, new_pass, slip_of, after_draw, with_copy, left_by_note, leaving_note, after_meet, joined_seats, left_half, right_half}
+use Rattle.tab_seats.specs.Rule.{FitsCopy, Fits}
 use Rattle.std.proofs.lemmas.Bool.{true≢false}
 use Rattle.tab_keys.proofs.OrderLaws.{is_before_later}
 use Rattle.tab_seats.proofs.Sums.{in_append, in_left, in_right}

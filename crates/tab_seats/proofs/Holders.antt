@@ -1,28 +1,20 @@
 -- What the types keep, after each step.
-use Rattle.std.proofs.Common.{◌≡◌, ℕ, zero, suc, ◌+◌, ◌-◌, ◌%◌, ◌^◌, ◌<◌, ◌≤◌, ◌≢◌, ◌⊎◌, Bool, true, false, cond, not, ◌&&◌, List, [], ◌∷◌, ◌++◌, length, set, max, refl, sym, ◌∙◌, ap, subst, inl, inr, ⊎_elim, arith, Option, Some, None, length-append}
-use Rattle.std.specs.Prelude.{nat_lt, nat_le, ◌==◌, slice_index, slice_set, IsTrue}
-use Rattle.std.specs.List.{sum_by}
-use mathlib.Core.Option.{some, some-injective, some-ne-none}
-use lib.ListN.{get_elem?}
-use Rattle.std.proofs.lemmas.Bool.Decides.{nat_tests}
-use Rattle.std.proofs.lemmas.List.Sums.{sum_by_push, sum_by-cons}
-use Rattle.atomic_table.proofs.Lists.{at_set, at_snoc, at_longer}
+use Rattle.std.proofs.Common.{◌≡◌, ℕ, ◌+◌, ◌^◌, ◌<◌, ◌≤◌, ◌⊎◌, Bool, true, List, [], ◌∷◌, ◌++◌, length, max, refl, sym, ◌∙◌, ap, subst, inl, inr, ⊎_elim, arith}
 use Rattle.tab_keys.specs.declared.keys.Key.{Key}
 use Rattle.tab_keys.specs.declared.bounds.Bound.{Bound}
-use Rattle.tab_keys.specs.Order.{is_before, bound_lt}
 use Rattle.tab_keys.specs.Spans.{Interval, has}
 use Rattle.tab_seats.specs.declared.views.Stroke.{Stroke}
 use Rattle.tab_seats.specs.declared.views.LogCopy.{LogCopy}
 use Rattle.tab_seats.specs.declared.views.View.{View}
-use Rattle.tab_seats.specs.Lists.{In, one_if, times, RisesBy, first_of, rest_of}
-use Rattle.tab_seats.specs.Logs.{IsByNumber, AreRising, next_number, with_stroke, with_strokes, with_right, with_rights, last_right, other_rights}
-use Rattle.tab_seats.specs.Views.{Knows, copy_of, covers, both_spans, from_to, below_cut, above_cut, spent_view, seat_over, less_permits, new_pass, slip_at, slip_of, after_heed, after_draw, with_copy, left_by_note, leaving_note, note_of, after_note, after_meet, after_fuse, joined_seats, left_half, right_half}
-use Rattle.tab_seats.specs.Rule.{FitsCopy, Fits, SeatRule, WordTells}
+use Rattle.tab_seats.specs.Lists.{In, one_if}
+use Rattle.tab_seats.specs.Logs.{next_number, with_rights, last_right, other_rights}
+use Rattle.tab_seats.specs.Views.{Knows, copy_of, from_to, below_cut, above_cut, seat_over, less_permits, new_pass, after_heed, after_draw, note_of, after_note, after_meet, after_fuse, left_half, right_half}
+use Rattle.tab_seats.specs.Rule.{WordTells}
 use Rattle.std.proofs.lemmas.Bool.{cases_lt}
 use Rattle.std.proofs.lemmas.List.{append-nil}
 use Rattle.tab_seats.specs.Offices.{OfficeId, MemberView, IsSeat, IsPass, IsNote, IsSlip}
 use Rattle.tab_seats.proofs.Sums.{in_append, in_right}
-use Rattle.tab_seats.proofs.LogLemmas.{times_in, times_none, other_in, last_right_in, in_with_right, in_with_rights, times_with_right, times_with_rights, length_with_rights, with_strokes_left, with_strokes_right, with_right_last, in_with_strokes, rises_with_strokes, rises_with_rights, rises_push, rises_other, rises_short}
+use Rattle.tab_seats.proofs.LogLemmas.{other_in, last_right_in, in_with_rights, length_with_rights, with_strokes_left, with_strokes_right, with_right_last, rises_with_strokes, rises_with_rights, rises_push, rises_other}
 use Rattle.tab_seats.proofs.Fitting.{next_number_le}
 use Rattle.tab_seats.proofs.Counts.{distinct_below, next_number-with_strokes, next_number_push, last_right_none, last_right-with_rights, last_right_new, last_right_gone}
 

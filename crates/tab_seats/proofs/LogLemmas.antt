@@ -1,21 +1,10 @@
 -- Logs by number, and rights to numbers.
-use Rattle.std.proofs.Common.{◌≡◌, ℕ, zero, suc, ◌+◌, ◌-◌, ◌%◌, ◌^◌, ◌<◌, ◌≤◌, ◌≢◌, ◌⊎◌, Bool, true, false, cond, not, ◌&&◌, List, [], ◌∷◌, ◌++◌, length, set, max, refl, sym, ◌∙◌, ap, subst, inl, inr, ⊎_elim, arith, Option, Some, None, length-append}
-use Rattle.std.specs.Prelude.{nat_lt, nat_le, ◌==◌, slice_index, slice_set, IsTrue}
-use Rattle.std.specs.List.{sum_by}
-use mathlib.Core.Option.{some, some-injective, some-ne-none}
-use lib.ListN.{get_elem?}
+use Rattle.std.proofs.Common.{◌≡◌, ℕ, zero, suc, ◌+◌, ◌<◌, ◌≤◌, ◌≢◌, ◌⊎◌, Bool, true, false, cond, List, [], ◌∷◌, ◌++◌, length, refl, sym, ap, subst, inl, inr, ⊎_elim, arith}
+use Rattle.std.specs.Prelude.{nat_lt, nat_le, ◌==◌}
 use Rattle.std.proofs.lemmas.Bool.Decides.{nat_tests}
-use Rattle.std.proofs.lemmas.List.Sums.{sum_by_push, sum_by-cons}
-use Rattle.atomic_table.proofs.Lists.{at_set, at_snoc, at_longer}
-use Rattle.tab_keys.specs.declared.keys.Key.{Key}
-use Rattle.tab_keys.specs.declared.bounds.Bound.{Bound}
-use Rattle.tab_keys.specs.Order.{is_before, bound_lt}
-use Rattle.tab_keys.specs.Spans.{Interval, has}
 use Rattle.tab_seats.specs.declared.views.Stroke.{Stroke}
-use Rattle.tab_seats.specs.declared.views.LogCopy.{LogCopy}
-use Rattle.tab_seats.specs.declared.views.View.{View}
-use Rattle.tab_seats.specs.Lists.{In, one_if, times, RisesBy, first_of, rest_of}
-use Rattle.tab_seats.specs.Logs.{IsByNumber, AreRising, next_number, with_stroke, with_strokes, with_right, with_rights, last_right, other_rights}
+use Rattle.tab_seats.specs.Lists.{In, one_if, times, RisesBy}
+use Rattle.tab_seats.specs.Logs.{IsByNumber, AreRising, with_stroke, with_strokes, with_right, with_rights, last_right, other_rights}
 use Rattle.tab_seats.proofs.Sums.{in_append}
 
 not_some : (n : ℕ) → ¬ (0 < n) → n ≡ 0

@@ -1,30 +1,27 @@
 -- Each kind of step keeps the rule, and what each call of the table asks of its step.
-use Rattle.std.proofs.Common.{◌≡◌, ℕ, zero, suc, ◌+◌, ◌-◌, ◌%◌, ◌^◌, ◌<◌, ◌≤◌, ◌≢◌, ◌⊎◌, Bool, true, false, cond, not, ◌&&◌, List, [], ◌∷◌, ◌++◌, length, set, max, refl, sym, ◌∙◌, ap, subst, inl, inr, ⊎_elim, arith, Option, Some, None, length-append}
-use Rattle.std.specs.Prelude.{nat_lt, nat_le, ◌==◌, slice_index, slice_set, IsTrue}
+use Rattle.std.proofs.Common.{◌≡◌, ℕ, zero, suc, ◌+◌, ◌%◌, ◌^◌, ◌<◌, ◌≤◌, Bool, true, false, List, [], ◌∷◌, ◌++◌, length, set, refl, sym, ◌∙◌, ap, subst, inl, inr, arith, Option, Some, length-append}
+use Rattle.std.specs.Prelude.{◌==◌, slice_index, slice_set}
 use Rattle.std.specs.List.{sum_by}
 use mathlib.Core.Option.{some, some-injective, some-ne-none}
 use lib.ListN.{get_elem?}
 use Rattle.std.proofs.lemmas.Bool.Decides.{nat_tests}
-use Rattle.std.proofs.lemmas.List.Sums.{sum_by_push, sum_by-cons}
-use Rattle.atomic_table.proofs.Lists.{at_set, at_snoc, at_longer}
 use Rattle.tab_keys.specs.declared.keys.Key.{Key}
 use Rattle.tab_keys.specs.declared.bounds.Bound.{Bound}
-use Rattle.tab_keys.specs.Order.{is_before, bound_lt}
+use Rattle.tab_keys.specs.Order.{bound_lt}
 use Rattle.tab_keys.specs.Spans.{Interval, has}
 use Rattle.tab_seats.specs.declared.views.Stroke.{Stroke}
-use Rattle.tab_seats.specs.declared.views.LogCopy.{LogCopy}
 use Rattle.tab_seats.specs.declared.views.View.{View}
-use Rattle.tab_seats.specs.Lists.{In, one_if, times, RisesBy, first_of, rest_of}
-use Rattle.tab_seats.specs.Logs.{IsByNumber, AreRising, next_number, with_stroke, with_strokes, with_right, with_rights, last_right, other_rights}
-use Rattle.tab_seats.specs.Views.{Knows, covers, both_spans, from_to, below_cut, above_cut, spent_view, seat_over, less_permits, new_pass, slip_at, slip_of, after_heed, after_draw, with_copy, left_by_note, leaving_note, note_of, after_note, after_meet, after_fuse, joined_seats, left_half, right_half}
-use Rattle.tab_seats.specs.Rule.{FitsCopy, Fits, SeatRule, WordTells}
+use Rattle.tab_seats.specs.Lists.{one_if, times}
+use Rattle.tab_seats.specs.Logs.{next_number}
+use Rattle.tab_seats.specs.Views.{Knows, covers, both_spans, below_cut, above_cut, spent_view, seat_over, less_permits, new_pass, slip_of, after_draw, with_copy, left_by_note, leaving_note, after_meet, joined_seats, left_half, right_half}
+use Rattle.tab_seats.specs.Rule.{Fits, SeatRule, WordTells}
 use Rattle.std.proofs.Math.Nat.{mod-eq_of_lt}
-use Rattle.atomic_table.specs.Table.{State, Allows, Splits, Joins, opening, keeps, Act, Me, Valid, stepped, carried_after}
-use Rattle.tab_seats.specs.Parts.{IsLive, AreTwo, NumbersBelow, RightsOnce, SevenParts}
-use Rattle.tab_seats.proofs.Sums.{sum_by-set, sum_by-at, sum_by-none, sum_by-two, sum_by-parted, sum_by-joined, all_set, all_snoc, in_append, in_left, in_right}
-use Rattle.tab_seats.proofs.LogLemmas.{times_append, times_in, times_none, times_some, times_last_right, times_with_rights}
-use Rattle.tab_seats.proofs.Turns.{Shared, Merged, changes, parts, joins}
-use Rattle.tab_seats.proofs.Fitting.{fits_spent, fits_less, fits_new, fits_slip, fits_left_by, fits_leaving, fits_copy, fits_met, fits_joined, fits_left, fits_right, fits_drawn, grows, cut_keys, fuse_keys, next_number_le, at_below}
+use Rattle.atomic_table.specs.Table.{State, Allows, Splits, Joins, keeps, Act, Me, Valid, stepped, carried_after}
+use Rattle.tab_seats.specs.Parts.{IsLive, SevenParts}
+use Rattle.tab_seats.proofs.Sums.{sum_by-set, sum_by-at, sum_by-none, sum_by-two, all_set}
+use Rattle.tab_seats.proofs.LogLemmas.{times_append, times_none, times_some, times_last_right, times_with_rights}
+use Rattle.tab_seats.proofs.Turns.{changes, parts, joins}
+use Rattle.tab_seats.proofs.Fitting.{fits_spent, fits_less, fits_new, fits_slip, fits_left_by, fits_leaving, fits_copy, fits_met, fits_joined, fits_left, fits_right, fits_drawn, grows, cut_keys, fuse_keys, at_below}
 
 same_word : (words : List ℕ) (n : ℕ) → words ≡ n ∷ [] → slice_set words 0 (slice_index words 0) ≡ words
 same_word words n e = let P : List ℕ → Type 0 = λ ws. slice_set ws 0 (slice_index ws 0) ≡ ws in subst P (sym e) refl

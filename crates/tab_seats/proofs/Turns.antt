@@ -1,25 +1,15 @@
 -- A step that changes one view, cuts one in two or makes one of two keeps the rule where the views that it makes fit,
 -- and have no more keys, rights and permits than those that it took.
-use Rattle.std.proofs.Common.{◌≡◌, ℕ, zero, suc, ◌+◌, ◌-◌, ◌%◌, ◌^◌, ◌<◌, ◌≤◌, ◌≢◌, ◌⊎◌, Bool, true, false, cond, not, ◌&&◌, List, [], ◌∷◌, ◌++◌, length, set, max, refl, sym, ◌∙◌, ap, subst, inl, inr, ⊎_elim, arith, Option, Some, None, length-append}
-use Rattle.std.specs.Prelude.{nat_lt, nat_le, ◌==◌, slice_index, slice_set, IsTrue}
-use Rattle.std.specs.List.{sum_by}
-use mathlib.Core.Option.{some, some-injective, some-ne-none}
+use Rattle.std.proofs.Common.{◌≡◌, ℕ, ◌+◌, ◌≤◌, ◌≢◌, List, [], ◌∷◌, ◌++◌, set, ⊎_elim, arith}
+use mathlib.Core.Option.{some}
 use lib.ListN.{get_elem?}
-use Rattle.std.proofs.lemmas.Bool.Decides.{nat_tests}
-use Rattle.std.proofs.lemmas.List.Sums.{sum_by_push, sum_by-cons}
-use Rattle.atomic_table.proofs.Lists.{at_set, at_snoc, at_longer}
+use Rattle.atomic_table.proofs.Lists.{at_set}
 use Rattle.tab_keys.specs.declared.keys.Key.{Key}
-use Rattle.tab_keys.specs.declared.bounds.Bound.{Bound}
-use Rattle.tab_keys.specs.Order.{is_before, bound_lt}
-use Rattle.tab_keys.specs.Spans.{Interval, has}
-use Rattle.tab_seats.specs.declared.views.Stroke.{Stroke}
-use Rattle.tab_seats.specs.declared.views.LogCopy.{LogCopy}
 use Rattle.tab_seats.specs.declared.views.View.{View}
-use Rattle.tab_seats.specs.Lists.{In, one_if, times, RisesBy, first_of, rest_of}
-use Rattle.tab_seats.specs.Logs.{IsByNumber, AreRising, next_number, with_stroke, with_strokes, with_right, with_rights, last_right, other_rights}
-use Rattle.tab_seats.specs.Views.{Knows, covers, both_spans, from_to, below_cut, above_cut, spent_view, seat_over, less_permits, new_pass, slip_at, slip_of, after_heed, after_draw, with_copy, left_by_note, leaving_note, note_of, after_note, after_meet, after_fuse, joined_seats, left_half, right_half}
-use Rattle.tab_seats.specs.Rule.{FitsCopy, Fits, SeatRule, WordTells}
-use Rattle.tab_seats.proofs.Sums.{sum_by-set, sum_by-at, sum_by-two, sum_by-parted, sum_by-joined, all_set, all_snoc, in_append, in_left, in_right}
+use Rattle.tab_seats.specs.Lists.{times}
+use Rattle.tab_seats.specs.Views.{covers}
+use Rattle.tab_seats.specs.Rule.{Fits, SeatRule}
+use Rattle.tab_seats.proofs.Sums.{sum_by-set, sum_by-parted, sum_by-joined, all_set, all_snoc}
 
 module _ {C : Type 0} (key : C → Key) (bound : ℕ) where
   -- l and r have no more than v

@@ -1,5 +1,5 @@
 -- What contracts see of a seat, a slip, a note and a pass, and what their types keep.
-use Rattle.std.specs.Prelude.{◌≡◌, ℕ, ◌+◌, ◌<◌, ◌≤◌, ◌∷◌, ◌++◌, [], List, Some, None}
+use Rattle.std.specs.Prelude.{◌≡◌, ℕ, ◌+◌, ◌<◌, ◌≤◌, ◌∷◌, ◌++◌, [], Some, None}
 use Rattle.tab_keys.specs.Spans.{Interval}
 use Rattle.atomic_table.specs.Seated.{TableId}
 use Rattle.tab_seats.specs.declared.views.Stroke.{Stroke}

@@ -1,5 +1,5 @@
 -- What the holders of an office know, and what each step makes of it.
-use Rattle.std.specs.Prelude.{◌≡◌, ℕ, ◌+◌, ◌-◌, ◌*◌, ◌^◌, ◌<◌, ◌≤◌, max, Bool, false, List, [], ◌∷◌, ◌++◌, ◌⊎◌, Option, Some, None}
+use Rattle.std.specs.Prelude.{ℕ, ◌+◌, ◌-◌, max, [], ◌∷◌, ◌++◌, ◌⊎◌, Option, Some, None}
 use Rattle.tab_keys.specs.declared.keys.Key.{Key}
 use Rattle.tab_keys.specs.declared.bounds.Bound.{Bound}
 use Rattle.tab_keys.specs.declared.bounds.Bound.TheVariants.{At, End}

@@ -10,6 +10,8 @@ mod seats;
 mod slips;
 mod steps;
 mod tallies;
+#[cfg(test)]
+mod tests;
 mod views;
 
 pub use laws::seven_parts;

@@ -45,12 +45,8 @@ impl<C: Keyed> Member<C> {
         ensures { IfOk result (λ m. (m.office.passes ≡ passes) × (m.office.opening ≡ opening.value) × (m.view ≡ seat_over everything (most_strokes passes))) }
     {
         let terms = Terms { passes, opening };
-        let Ok((table, seat)) = OfficeTable::<C>::of_words(alloc, &[0], &terms) else {
-            return Err(Memory);
-        };
-        let Ok(table) = Arc::new(alloc, table) else {
-            return Err(Memory);
-        };
+        let (table, seat) = OfficeTable::<C>::of_words(alloc, &[0], &terms)?;
+        let table = Arc::new(alloc, table)?;
         Ok(Member { table, seat })
     }
 
@@ -153,8 +149,5 @@ fn shared<C: Keyed>(
 ) -> Result<Arc<OfficeTable<C>, Global>, Memory>
     ensures { IfOk result (λ other. arc_value other ≡ arc_value table.now) }
 {
-    match Arc::try_clone(table) {
-        Ok(other) => Ok(other),
-        Err(_) => Err(Memory),
-    }
+    Ok(Arc::try_clone(table)?)
 }

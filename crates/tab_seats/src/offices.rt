@@ -47,9 +47,7 @@ impl<C: Keyed> Office<C> {
         let mut all = Vec::new(alloc);
         for _i in 0..passes {
             let pass = CallerPass::new(member.hand_out()?);
-            let Ok(()) = all.push(pass) else {
-                return Err(Memory);
-            };
+            all.push(pass)?;
         }
         Ok((Office { member: office }, RangeSeat::new(member), all))
     }

@@ -27,7 +27,7 @@ not_last test n found passes fails below (inr least) =
     let same : found ≡ n = omega arith in absurd (true≢false (sym passes ∙ ap test same ∙ fails))
 
 -- just one passes
-one_below : (test : ℕ → Bool) (n found : ℕ) → found < n → test found ≡ true → ((k : ℕ) → k < n → test k ≡ true → k ≡ found) → last_below test n ≡ Some found
+pub one_below : (test : ℕ → Bool) (n found : ℕ) → found < n → test found ≡ true → ((k : ℕ) → k < n → test k ≡ true → k ≡ found) → last_below test n ≡ Some found
 unfolding last_below
 one_below test zero found below passes only = absurd (omega arith)
 one_below test (suc n) found below passes only =

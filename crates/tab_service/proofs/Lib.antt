@@ -2,6 +2,11 @@ pub mod ConditionLemmas
 mod EntityLemmas
 mod PartLemmas
 pub mod RequestLaws
+pub mod AddressLaws
+pub mod VersionLaws
+pub mod PlainLaws
+mod NameLaws
+pub mod FollowLaws
 mod QuoteLemmas
 mod ReplyLemmas
 mod TextLemmas

@@ -1,5 +1,5 @@
 -- Texts that are cut at a mark.
-use Rattle.std.proofs.Common.{◌≡◌, ◌≢◌, ℕ, ◌+◌, ◌-◌, ◌<◌, List, ◌++◌, length, take, Bool, true, false, ◌==◌, cond, Option, Some, None, option_map, Bor, arith, refl, ap, ◌∙◌, bytes_eq}
+use Rattle.std.proofs.Common.{◌≡◌, ◌≢◌, ℕ, ◌-◌, ◌<◌, List, ◌++◌, length, take, Bool, true, false, ◌==◌, cond, Option, Some, None, option_map, Bor, refl, ap, ◌∙◌, bytes_eq}
 use Rattle.std.specs.Option.{MatchOption, option_copied}
 use Rattle.std.specs.List.{position_or_len, before_first, after_first}
 use Rattle.std.specs.Str.Pattern.{FindsTextSuffix, StripsSuffix}

@@ -1,8 +1,10 @@
--- The requests that messages come to are in their form, and a message comes to one thing alone.
+-- The requests that messages come to are in their form and signed, and a message comes to just one thing.
 use Rattle.std.proofs.Common.{◌≡◌, ℕ, ◌+◌, List, [], ◌∷◌, Bool, true, false, cond, Option, Some, None, Result, Ok, Err, IfOk, if◌then◌else◌, refl, sym, ap, subst, ◌∙◌, codes, bytes_eq, ◌||◌}
 use Rattle.std.specs.Prelude.{⊤}
 use Rattle.tab_keys.specs.Results.{◌>>=◌}
-use Rattle.tab_auth.specs.Checks.{refusal}
+use Rattle.tab_auth.specs.Checks.{refusal, account_refusal}
+use Rattle.tab_auth.specs.SignedRequests.{IsSigned}
+use Rattle.tab_auth.proofs.Signings.{taken_exactly}
 use Rattle.tab_auth.specs.declared.checks.AuthRefused.{AuthRefused}
 use Rattle.tab_auth.specs.declared.signatures.Keys.{Keys}
 use Rattle.tab_edm.specs.Entities.{EntityView}
@@ -19,6 +21,7 @@ use Rattle.tab_service.specs.Signing.{signed_of}
 use Rattle.tab_service.specs.TableQueries.{table_window}
 use Rattle.tab_service.specs.Preferences.{format_for, format_with_body, preference_for}
 use Rattle.tab_service.specs.Conditions.{condition_for, needed_condition}
+use Rattle.tab_service.specs.Refusals.{refusal_text}
 use Rattle.tab_service.specs.Requests.{tables_request, create_request, drop_request, page_request, row_request, change_operation, single, table_name, row_keys, body_name, query_options, query_select, read_body, given_keys, entity_for, op_for, insert_from, write_from, decided_tables, decided_create, decided_drop, decided_page, decided_row, decided_insert, decided_write, decided_delete, change_in_rows, change_of_row, resource_at}
 use Rattle.tab_service.specs.Forms.{IsPartOf, ArePartsOf, IsInForm}
 use Rattle.tab_service.specs.Batches.{Operations, part_on, part_of, with_part, operations_from, request_for, grouped_request, batch_request, boundary_in, IsReadUnder, IsBatchOf}
@@ -33,7 +36,7 @@ use Rattle.tab_service.specs.declared.forms.Prefer.{Prefer}
 use Rattle.tab_service.specs.declared.forms.Prefer.TheVariants.{Unsaid}
 use Rattle.tab_service.specs.declared.forms.Request.{Request}
 use Rattle.tab_service.specs.declared.refusals.Refusal.{Refusal}
-use Rattle.tab_service.specs.declared.refusals.Refusal.TheVariants.{Method}
+use Rattle.tab_service.specs.declared.refusals.Refusal.TheVariants.{Method, NoBoundary}
 use Rattle.tab_service.specs.declared.targets.Resource.{Resource}
 use Rattle.tab_service.specs.declared.targets.Resource.TheVariants.{Tables, Table, Rows, Row, Batch}
 use Rattle.tab_service.specs.declared.writes.Operation.{Operation}
@@ -332,3 +335,37 @@ one_outcome law account message (Ok (Many minimal)) a b p q = p.2 ∙ ap answere
 
 pub messages_have_one_decision : HaveOneAnswer → (keys : Keys) (now : ℕ) (message : Message) (a b : Decided) → IsDecision keys now message a → IsDecision keys now message b → a ≡ b
 messages_have_one_decision law keys now message a b p q = one_outcome law keys.account message (asked_of keys now message) a b p q
+
+-- ---- some decision
+
+-- no batch is without an answer
+abbrev pub HaveSomeAnswer : Type 0
+HaveSomeAnswer = (boundary bytes : List ℕ) → ((answer : Answer) → IsBatchAnswer boundary bytes answer → ⊥) → ⊥
+
+some_read : HaveSomeAnswer → (account : List ℕ) (minimal : Bool) (body : List ℕ) (boundary : Option (List ℕ)) → ((found : Result Request PartRefusal) → IsReadUnder account minimal body boundary found → ⊥) → ⊥
+some_read law account minimal body None none = none (Err (record { index = None; why = NoBoundary })) refl
+some_read law account minimal body (Some boundary) none = law boundary body (λ answer is. none (batch_request account minimal answer) (answer, is, refl))
+
+some_batch : HaveSomeAnswer → (account : List ℕ) (minimal : Bool) (message : Message) → ((found : Result Request PartRefusal) → IsBatchOf account minimal message found → ⊥) → ⊥
+unfolding IsBatchOf
+some_batch law account minimal message none = some_read law account minimal message.body (boundary_in message.headers) none
+
+some_outcome : HaveSomeAnswer → (account : List ℕ) (message : Message) (asked : Result Asked Refusal) → ((decided : Decided) → ComesTo account message asked decided → ⊥) → ⊥
+some_outcome law account message (Err why) none = none (No (refusal_text None why)) refl
+some_outcome law account message (Ok (One request)) none = none (Go request) refl
+some_outcome law account message (Ok (Many minimal)) none = some_batch law account minimal message (λ found is. none (answered found) (found, is, refl))
+
+pub messages_have_some_decision : HaveSomeAnswer → (keys : Keys) (now : ℕ) (message : Message) → ((decided : Decided) → IsDecision keys now message decided → ⊥) → ⊥
+messages_have_some_decision law keys now message none = some_outcome law keys.account message (asked_of keys now message) none
+
+-- ---- signatures
+
+signed_by : (account : List ℕ) (message : Message) (why : Option AuthRefused) (asked : Result Asked Refusal) (request : Request) → ComesTo account message (if_signed why asked) (Go request) → why ≡ None
+signed_by account message None asked request is = refl
+signed_by account message (Some why) asked request is = absurd (no_go _ request is)
+
+pub requests_are_signed : (keys : Keys) (key : List ℕ) (now : ℕ) (message : Message) (request : Request) → keys.key ≡ Some key → IsDecision keys now message (Go request) → IsSigned keys.account key (signed_of message) now
+unfolding asked_of refusal
+requests_are_signed keys key now message request has is =
+    let taken = signed_by keys.account message (refusal keys (signed_of message) now) (decided_at keys.account message) request is in
+    (taken_exactly keys.account key (signed_of message) now).0 (ap (λ (k : Option (List ℕ)). account_refusal keys.account k (signed_of message) now) (sym has) ∙ taken)

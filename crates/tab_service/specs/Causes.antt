@@ -168,6 +168,17 @@ entity_there = row 409 (codes "EntityAlreadyExists") (codes "The entity is there
 abbrev pub other_version : List ℕ → Cause
 other_version etag = row 412 (codes "UpdateConditionNotSatisfied") (codes "The kept version is " ++ etag ++ codes ".")
 
+-- a plan hands the key's range over
+abbrev pub busy : ℕ → Cause
+busy plan = row 503 (codes "ServerBusy") (codes "The server is busy: plan " ++ decimal plan ++ codes ".")
+
+abbrev pub disk_failed : ℕ → Cause
+disk_failed disk = row 500 (codes "DiskFault") (codes "Disk " ++ decimal disk ++ codes " failed.")
+
+-- a disk has, at this byte, what the store did not write
+abbrev pub disk_damaged : ℕ → ℕ → Cause
+disk_damaged disk at = row 500 (codes "StoreDamaged") (codes "Disk " ++ decimal disk ++ codes " is damaged at " ++ decimal at ++ codes ".")
+
 abbrev pub time_spent : Cause
 time_spent = row 500 (codes "TimeSpent") (codes "The last moment is reached.")
 

@@ -1,5 +1,6 @@
 pub mod Causes
 pub mod Targets
+pub mod Addresses
 pub mod Signing
 pub mod Preferences
 pub mod Replies
@@ -10,3 +11,4 @@ pub mod Requests
 pub mod Forms
 pub mod Batches
 pub mod Decisions
+pub mod Laws

@@ -107,9 +107,7 @@ SuitsDenial batch ask denied.NoTable = ⊤
 SuitsDenial batch ask denied.TableThere = batch ≡ false
 SuitsDenial batch ask denied.NotFound = batch ≡ false
 SuitsDenial batch ask (denied.Op refusal) = SuitsRefusal ask refusal
-SuitsDenial batch ask denied.TimeSpent = ⊤
-SuitsDenial batch ask denied.IdsSpent = ⊤
-SuitsDenial batch ask denied.Memory = ⊤
+SuitsDenial batch ask _ = ⊤
 
 -- a reply to such an ask: a row for a key, a page for a page, a tick for a change, what was done to tables for the same
 -- kind of ask, and a denial for each
@@ -200,8 +198,11 @@ denied_reply batch denied.NoTable = error_text_at (index_in batch 0) cause.no_ta
 denied_reply batch denied.TableThere = error_text cause.table_there
 denied_reply batch denied.NotFound = error_text cause.no_entity
 denied_reply batch (denied.Op refusal) = refused_reply batch refusal
+denied_reply batch (denied.Busy plan) = error_text (cause.busy plan)
 denied_reply batch denied.TimeSpent = error_text cause.time_spent
 denied_reply batch denied.IdsSpent = error_text cause.numbers_spent
+denied_reply batch (denied.DiskFault disk) = error_text (cause.disk_failed disk)
+denied_reply batch (denied.Damaged disk at) = error_text (cause.disk_damaged disk at)
 denied_reply batch denied.Memory = memory_fault
 
 -- the type of a body with minimal metadata, or with none

@@ -352,10 +352,50 @@ fn denied_reply(alloc: Global, batch: bool, ask: &Ask, why: Denied) -> Result<Ve
         ),
         Denied::NotFound => fault_bytes(alloc, 404, "ResourceNotFound", "The entity is not there."),
         Denied::Op(refused) => refused_reply(alloc, batch, ask, refused),
+        Denied::Busy { plan } => number_fault(
+            alloc,
+            503,
+            "ServerBusy",
+            "The server is busy: plan ",
+            plan,
+            ".",
+        ),
         Denied::TimeSpent => fault_bytes(alloc, 500, "TimeSpent", "The last moment is reached."),
         Denied::IdsSpent => fault_bytes(alloc, 500, "IdsSpent", "No table number is left."),
+        Denied::DiskFault { disk } => {
+            number_fault(alloc, 500, "DiskFault", "Disk ", disk, " failed.")
+        }
         Denied::Memory => memory_bytes(alloc),
+        Denied::Damaged { disk, at } => damaged_reply(alloc, disk, at),
     }
+}
+
+/// The reply by a cause whose text has a number in it.
+fn number_fault(
+    alloc: Global,
+    status: u16,
+    code: &str,
+    before: &str,
+    number: u64,
+    behind: &str,
+) -> Result<Vec<u8>, Memory>
+    requires { IsStatusCode status }
+    ensures { IfOk result (λ bytes. bytes.items ≡ fault_reply status code.now (before.now ++ decimal number ++ behind.now)) }
+{
+    let number = number.to_string(alloc)?;
+    let text = around(alloc, before, number.as_str(), behind)?;
+    fault_bytes(alloc, status, code, text.as_str())
+}
+
+/// The reply to a request for which a disk was read that has, at this byte, what the store did not write.
+fn damaged_reply(alloc: Global, disk: u64, at: u64) -> Result<Vec<u8>, Memory>
+    ensures { IfOk result (λ bytes. bytes.items ≡ error_text (cause.disk_damaged disk at)) }
+{
+    let disk = disk.to_string(alloc)?;
+    let at = at.to_string(alloc)?;
+    let place = around(alloc, " is damaged at ", at.as_str(), ".")?;
+    let text = around(alloc, "Disk ", disk.as_str(), place.as_str())?;
+    fault_bytes(alloc, 500, "StoreDamaged", text.as_str())
 }
 
 fn no_table(alloc: Global, index: Option<usize>) -> Result<Vec<u8>, Memory>

@@ -6,7 +6,7 @@ ghost use Rattle.tab_http.specs.Headers.{is_named};
 ghost use Rattle.tab_service.specs.Targets.{text_of};
 ghost use Rattle.tab_service.specs.Signing.{sole_value, date_value, first_of, comp_of, signed_of};
 
-use crate::queries::{owned, values_of};
+use crate::copies::owned;
 use crate::targets::split_target;
 use std::alloc::Global;
 use std::str;
@@ -14,6 +14,7 @@ use tab_auth::Signed;
 use tab_edm::TextValue;
 use tab_http::{Header, Message, first_value};
 use tab_keys::Memory;
+use tab_page::values_of;
 
 /// What of a message is signed, and how.
 #[tactic(auto, unfolding(crate::specs::Signing::signed_of))]

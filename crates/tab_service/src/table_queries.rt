@@ -6,11 +6,10 @@ ghost use Rattle.tab_service.specs.TableQueries.{options_result, count_of, after
 ghost use Rattle.tab_keys.specs.TableNames.{name_refusal};
 
 use crate::Refusal;
-use crate::queries::values_of;
 use std::alloc::Global;
 use tab_edm::TextValue;
 use tab_keys::{KeyText, Memory, NameRefused, TableName};
-use tab_page::{MOST_ROWS, OptionRefused, Token, TokenRefused, read_top};
+use tab_page::{MOST_ROWS, OptionRefused, Token, TokenRefused, read_top, values_of};
 
 /// Which tables a query asks for.
 #[derive(Debug, Drop)]

@@ -7,7 +7,7 @@ ghost use Rattle.tab_service.specs.Targets.{path_of, query_of, behind, path_behi
 ghost use Rattle.tab_service.specs.Requests.{resource_at};
 
 use crate::Refusal;
-use crate::queries::owned;
+use crate::copies::owned;
 use percent_encoding::{DecodeError, percent_decode};
 use std::alloc::Global;
 use tab_edm::TextValue;

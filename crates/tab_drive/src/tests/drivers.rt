@@ -5,15 +5,7 @@ ghost use Rattle.tab_outside.specs.Sides.{nothing_beside};
 
 use crate::{Ended, run};
 use std::alloc::{AllocError, Global};
-use tab_outside::{Failed, MemDisk, MemSink, MemSource, SetClock, Sink, Source};
-
-/// The message that makes the table `Goods`.
-pub const MAKE_GOODS: &str =
-    "POST /shop/Tables HTTP/1.1\r\nContent-Length: 21\r\n\r\n{\"TableName\":\"Goods\"}";
-
-/// The reply to it.
-pub const MADE_GOODS: &str =
-    "HTTP/1.1 201 Created\r\nContent-Length: 88\r\nContent-Type: application/json;odata=minimalmetadata;streaming=true;charset=utf-8\r\nx-ms-version: 2019-02-02\r\n\r\n{\"TableName\":\"Goods\",\"odata.metadata\":\"http://localhost/shop/$metadata#Tables/@Element\"}";
+use tab_outside::{Failed, MemDisk, SetClock, Sink, Source};
 
 /// A source that gives one byte a call, and does not tell what is left.
 #[derive(Drop)]
@@ -70,8 +62,8 @@ impl Sink for ByteSink {
     }
 }
 
-/// Runs a schedule for the open account `shop`.
-pub fn drive<S: Source, K: Sink>(
+/// Runs a schedule for the open account `shop`. Nothing is said of what comes, since the tests say it.
+pub fn run_over<S: Source, K: Sink>(
     alloc: Global,
     source: &mut S,
     sink: &mut K,
@@ -83,19 +75,4 @@ pub fn drive<S: Source, K: Sink>(
     let mut yard: Vec<MemDisk> = Vec::new(alloc);
     let mut clock = SetClock::new(0);
     Ok(run(alloc, words.as_slice(), source, sink, &mut yard, &mut clock))
-}
-
-/// What the run of a schedule writes, behind which the line `end` is added.
-pub fn written(alloc: Global, mut schedule: Vec<u8>) -> Result<Vec<u8>, AllocError> {
-    schedule.extend_from_slice(b"end\n")?;
-    let mut source = MemSource::new(schedule, Vec::new(alloc));
-    let mut sink = MemSink::new(alloc, Vec::new(alloc));
-    let _ended = drive(alloc, &mut source, &mut sink)?;
-    Vec::from_slice(alloc, sink.bytes())
-}
-
-/// Adds the event that hands in a message.
-pub fn push_call(schedule: &mut Vec<u8>, alloc: Global, message: &str) -> Result<(), AllocError> {
-    let event = format!(in alloc; "call {}\n{message}\n", message.len())?;
-    schedule.extend_from_slice(event.as_bytes())
 }

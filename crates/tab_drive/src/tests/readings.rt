@@ -8,7 +8,7 @@ use std::test::Fail;
 use tab_outside::{MemSource, Source, fill};
 
 /// What is to be read.
-#[derive(Clone, Copy, Debug)]
+#[derive(Clone, Copy)]
 enum Wanted {
     End,
     Now(u64),
@@ -29,7 +29,7 @@ fn is_wanted(read: &Result<NextEvent, Unread>, wanted: Wanted) -> bool {
 }
 
 /// Reads one event, and then all that was left.
-fn check<S: Source>(
+fn reads<S: Source>(
     rt: &impl Abort,
     alloc: Global,
     source: &mut S,
@@ -37,117 +37,96 @@ fn check<S: Source>(
     rest: &[u8],
 ) -> Result<(), Fail> {
     let read = next_event(alloc, source);
-    assert!(rt; is_wanted(&read, wanted), "{wanted:?}");
+    assert!(rt; is_wanted(&read, wanted));
     let mut left = Vec::new(alloc);
     let _ = fill(source, 1_000_000, &mut left);
-    assert_eq!(rt; left.as_slice(), rest);
+    assert!(rt; left.as_slice() == rest);
     Ok(())
+}
+
+/// Reads one event of a text, by pieces and byte by byte.
+fn reads_text(
+    rt: &impl Abort,
+    alloc: Global,
+    text: &str,
+    wanted: Wanted,
+    rest: &str,
+) -> Result<(), Fail> {
+    let bytes = Vec::from_slice(alloc, text.as_bytes())?;
+    let mut source = MemSource::new(bytes, Vec::new(alloc));
+    reads(rt, alloc, &mut source, wanted, rest.as_bytes())?;
+    let bytes = Vec::from_slice(alloc, text.as_bytes())?;
+    let mut source = ByteSource { bytes, offset: 0 };
+    reads(rt, alloc, &mut source, wanted, rest.as_bytes())
 }
 
 #[test]
 fn an_event_is_read_and_no_byte_behind_it(rt: HostRuntime) -> Result<(), Fail> {
+    let alloc = rt.alloc();
+    reads_text(&rt, alloc, "end\nnow 5\n", Wanted::End, "now 5\n")?;
+    reads_text(&rt, alloc, "now 5\nend\n", Wanted::Now(5), "end\n")?;
+    let call = Wanted::Call(b"a\nb\n");
+    reads_text(&rt, alloc, "call 4\na\nb\n\nnow 1\n", call, "now 1\n")
+}
+
+#[test]
+fn a_refused_event_is_read_to_where_that_shows(rt: HostRuntime) -> Result<(), Fail> {
+    let alloc = rt.alloc();
     let no_event = Wanted::Refused(Unread::NoEvent);
-    for (input, wanted, rest) in [
-        ("end\n", Wanted::End, ""),
-        ("end\nnow 5\n", Wanted::End, "now 5\n"),
-        ("now 5\nend\n", Wanted::Now(5), "end\n"),
-        ("now 0\n", Wanted::Now(0), ""),
-        ("now 18446744073709551615\n", Wanted::Now(u64::MAX), ""),
-        ("call 3\nabc\nend\n", Wanted::Call(b"abc"), "end\n"),
-        ("call 0\n\nend\n", Wanted::Call(b""), "end\n"),
-        (
-            "call 4\na\nb\n\nnow 1\n",
-            Wanted::Call(b"a\nb\n"),
-            "now 1\n",
-        ),
-        ("", no_event, ""),
-        ("\nend\n", no_event, "end\n"),
-        ("end", no_event, ""),
-        ("now 5", no_event, ""),
-        ("bogus\nend\n", no_event, "end\n"),
-        ("End\nend\n", no_event, "end\n"),
-        ("end \nend\n", no_event, "end\n"),
-        ("end\r\nend\n", no_event, "end\n"),
-        ("now \nend\n", no_event, "end\n"),
-        ("now  5\nend\n", no_event, "end\n"),
-        ("now 5 \nend\n", no_event, "end\n"),
-        ("now 05\nend\n", no_event, "end\n"),
-        ("now +5\nend\n", no_event, "end\n"),
-        ("now -5\nend\n", no_event, "end\n"),
-        ("now 0x5\nend\n", no_event, "end\n"),
-        ("now 18446744073709551616\nend\n", no_event, "end\n"),
-        ("call 01\na\n", no_event, "a\n"),
-        ("call +1\na\n", no_event, "a\n"),
-        ("call 4227073\nabc\n", no_event, "abc\n"),
-        ("call 3\nabcd\nend\n", no_event, "\nend\n"),
-        ("call 3\nab", no_event, ""),
-        ("call 3\nabc", no_event, ""),
-        ("call 4227072\nabc", no_event, ""),
-    ] {
-        let bytes = Vec::from_slice(rt.alloc(), input.as_bytes())?;
-        let mut source = MemSource::new(bytes, Vec::new(rt.alloc()));
-        check(&rt, rt.alloc(), &mut source, wanted, rest.as_bytes())?;
-        let bytes = Vec::from_slice(rt.alloc(), input.as_bytes())?;
-        check(
-            &rt,
-            rt.alloc(),
-            &mut ByteSource { bytes, offset: 0 },
-            wanted,
-            rest.as_bytes(),
-        )?;
-    }
-    Ok(())
+    reads_text(&rt, alloc, "bogus\nend\n", no_event, "end\n")?;
+    reads_text(&rt, alloc, "call 4227073\nabc\n", no_event, "abc\n")?;
+    reads_text(&rt, alloc, "call 3\nabcd\nend\n", no_event, "\nend\n")?;
+    reads_text(&rt, alloc, "call 4227072\nabc", no_event, "")
+}
+
+/// A line of so many bytes is refused, and that is left.
+fn refuses_line(rt: &impl Abort, alloc: Global, size: usize, rest: &[u8]) -> Result<(), Fail> {
+    let mut bytes = vec![in alloc; b'a'; size]?;
+    bytes.extend_from_slice(b"\nend\n")?;
+    let mut source = MemSource::new(bytes, Vec::new(alloc));
+    reads(
+        rt,
+        alloc,
+        &mut source,
+        Wanted::Refused(Unread::NoEvent),
+        rest,
+    )
 }
 
 #[test]
 fn a_line_has_at_most_16384_bytes(rt: HostRuntime) -> Result<(), Fail> {
-    for (size, rest) in [(16_384, "end\n"), (16_385, "\nend\n"), (16_386, "a\nend\n")] {
-        let mut bytes = vec![in rt.alloc(); b'a'; size]?;
-        bytes.extend_from_slice(b"\nend\n")?;
-        let mut source = MemSource::new(bytes, Vec::new(rt.alloc()));
-        check(
-            &rt,
-            rt.alloc(),
-            &mut source,
-            Wanted::Refused(Unread::NoEvent),
-            rest.as_bytes(),
-        )?;
-    }
-    Ok(())
+    refuses_line(&rt, rt.alloc(), 16_384, b"end\n")?;
+    refuses_line(&rt, rt.alloc(), 16_385, b"\nend\n")?;
+    refuses_line(&rt, rt.alloc(), 16_386, b"a\nend\n")
 }
 
 #[test]
 fn the_longest_message_is_read(rt: HostRuntime) -> Result<(), Fail> {
-    let mut bytes = Vec::from_slice(rt.alloc(), b"call 4227072\n".as_slice())?;
+    let alloc = rt.alloc();
+    let mut bytes = Vec::from_slice(alloc, b"call 4227072\n".as_slice())?;
     bytes.resize(4_227_085, b'm')?;
     bytes.extend_from_slice(b"\nend\n")?;
-    let mut source = MemSource::new(bytes, Vec::new(rt.alloc()));
-    match next_event(rt.alloc(), &mut source) {
+    let mut source = MemSource::new(bytes, Vec::new(alloc));
+    match next_event(alloc, &mut source) {
         Ok(NextEvent::Event(Scheduled::Call { message })) => {
-            assert_eq!(rt; message.as_slice().len(), 4_227_072);
+            assert!(rt; message.as_slice().len() == 4_227_072);
         }
         _ => assert!(rt; false),
     }
-    check(&rt, rt.alloc(), &mut source, Wanted::End, b"")
+    reads(&rt, alloc, &mut source, Wanted::End, b"")
+}
+
+/// A read that fails ends the reading, and that is left.
+fn fails(rt: &impl Abort, alloc: Global, read: u64, rest: &[u8]) -> Result<(), Fail> {
+    let bytes = Vec::from_slice(alloc, b"call 3\nabc\n".as_slice())?;
+    let mut source = MemSource::new(bytes, vec![in alloc; read]?);
+    reads(rt, alloc, &mut source, Wanted::Refused(Unread::Fault), rest)
 }
 
 #[test]
 fn a_failed_read_is_no_end_of_input(rt: HostRuntime) -> Result<(), Fail> {
-    for (fails, rest) in [
-        (1, "call 3\nabc\n"),
-        (6, "3\nabc\n"),
-        (8, "abc\n"),
-        (9, "\n"),
-    ] {
-        let bytes = Vec::from_slice(rt.alloc(), b"call 3\nabc\n".as_slice())?;
-        let mut source = MemSource::new(bytes, Vec::from_slice(rt.alloc(), [fails].as_slice())?);
-        check(
-            &rt,
-            rt.alloc(),
-            &mut source,
-            Wanted::Refused(Unread::Fault),
-            rest.as_bytes(),
-        )?;
-    }
-    Ok(())
+    fails(&rt, rt.alloc(), 1, b"call 3\nabc\n")?;
+    fails(&rt, rt.alloc(), 6, b"3\nabc\n")?;
+    fails(&rt, rt.alloc(), 8, b"abc\n")?;
+    fails(&rt, rt.alloc(), 9, b"\n")
 }

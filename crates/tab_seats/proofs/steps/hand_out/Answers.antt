@@ -1,4 +1,4 @@
-use Rattle.std.proofs.Common.{◌*◌, ap, arith}
+use Rattle.std.proofs.Common.{◌*◌, ap}
 use Rattle.tab_seats.proofs.Moves.{one_word, hands_out}
 use Rattle.tab_seats.proofs.steps.hand_out.Goals as goal
 

@@ -1,4 +1,4 @@
-use Rattle.std.proofs.Common.{◌*◌, ap, arith}
+use Rattle.std.proofs.Common.{◌*◌, ap}
 use Rattle.tab_seats.proofs.Moves.{one_word, meets}
 use Rattle.tab_seats.proofs.steps.meet.Goals as goal
 

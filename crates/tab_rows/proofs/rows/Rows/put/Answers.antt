@@ -1,4 +1,4 @@
-use Rattle.std.proofs.Common.{◌≡◌, ◌<◌, Bool, List, None, cond, insert, get_or, set, vec_len, vec_capacity, ap, sym, ◌∙◌, subst, arith}
+use Rattle.std.proofs.Common.{◌≡◌, ◌<◌, Bool, List, None, cond, insert, get_or, set, vec_len, vec_capacity, length, ap, sym, ◌∙◌, subst, arith}
 use Rattle.tab_keys.specs.declared.keys.Key.{Key}
 use Rattle.tab_rows.specs.Rows.{RowView, RowsView, AreRising, row_at, with_row}
 use Rattle.tab_rows.specs.Indices.{StandsAt, BelongsAt}
@@ -50,3 +50,7 @@ returns-in-Err-clause-rows c = inserted c ∙ ap (λ (all : RowsView). with_row 
 
 pub returns-in-Err-clause-before : goal.returns-in-Err-clause-before
 returns-in-Err-clause-before c = sym (absent c)
+
+pub returns-in-Err-clause-room : goal.returns-in-Err-clause-room
+returns-in-Err-clause-room c =
+    omega (arith, room c, (c.insert.ensures.in_place (room c)).1.0, c.insert.new.self.ok.0, c.insert.new.self.ok.1, c.self.inside.rows.ok.0, ap (λ (all : RowsView). all.spare) c.self.view_is, ap (λ (all : RowsView). length all.rows) c.self.view_is)

@@ -1,11 +1,10 @@
-use Rattle.std.proofs.Common.{◌*◌, ◌-◌, ◌≡◌, ◌+◌, ◌≤◌, ◌∷◌, ◌++◌, [], rules, ◌∙◌, length, max, false, sym, ap, subst, inl, arith}
+use Rattle.std.proofs.Common.{◌*◌, ◌≡◌, ◌∷◌, ◌++◌, [], ◌∙◌, length, sym, ap, inl, arith}
 use Rattle.std.proofs.lemmas.List.Elements.{All-pop}
 use Rattle.std.proofs.lemmas.Grind.{common_steps}
-use Rattle.std.specs.List.{sum_by}
 use Rattle.tab_seats.specs.Logs.{next_number}
 use Rattle.tab_seats.proofs.Fitting.{next_number_le}
 use Rattle.tab_seats.proofs.Holders.{counted}
-use Rattle.tab_seats.proofs.Closing.{most, known_of, calls_of, permits_of, one_taken, All-most, most_none, sum_none}
+use Rattle.tab_seats.proofs.Closing.{one_taken, All-most, most_none, sum_none}
 use Rattle.tab_seats.proofs.offices.Office.close.Goals as goal
 
 pub loop-seat-preserved : goal.loop-seat-preserved

@@ -1,4 +1,4 @@
-use Rattle.std.proofs.Common.{◌≡◌, ℕ, ◌+◌, ◌*◌, ◌^◌, ◌≤◌, length, max, None}
+use Rattle.std.proofs.Common.{◌≡◌, ◌+◌, ◌*◌, ◌^◌, ◌≤◌, max, None}
 use Rattle.std.specs.List.{All, sum_by}
 use Rattle.tab_keys.specs.declared.bounds.Bound.TheVariants.{End}
 use Rattle.tab_seats.proofs.Closing.{most, known_of, calls_of, permits_of}

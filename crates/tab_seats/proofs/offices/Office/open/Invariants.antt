@@ -1,4 +1,4 @@
-use Rattle.std.proofs.Common.{◌≡◌, ℕ, ◌*◌, ◌^◌, length, ◌-◌}
+use Rattle.std.proofs.Common.{◌≡◌, ◌*◌, ◌^◌, length, ◌-◌}
 use Rattle.std.specs.List.{All}
 use Rattle.tab_seats.specs.Views.{new_pass, seat_over, everything}
 use Rattle.tab_seats.proofs.offices.Office.open.Given as goal

@@ -1,4 +1,4 @@
-use Rattle.std.proofs.Common.{◌*◌, ◌^◌, Some, None}
+use Rattle.std.proofs.Common.{◌*◌, ◌^◌, None}
 use Rattle.tab_keys.specs.declared.bounds.Bound.TheVariants.{End}
 use Rattle.tab_seats.proofs.passes.CallerPass.meet.Given as goal
 

@@ -1,11 +1,7 @@
-use Rattle.std.proofs.Common.{◌≡◌, ℕ, ◌+◌, ◌-◌, ◌*◌, ◌<◌, ◌≤◌, max, List, [], ◌∷◌, ◌++◌, Some, None, Option, Bool, true, false, refl, sym, ◌∙◌, ap, subst, arith, length}
-use Rattle.tab_seats.specs.declared.views.View.{View}
-use Rattle.tab_seats.specs.Lists.{one_if}
-use Rattle.tab_seats.specs.Logs.{next_number, last_right, with_rights}
-use Rattle.tab_seats.specs.Views.{after_draw, after_heed, note_of, after_note, left_half, right_half, after_fuse, after_meet, slip_of, less_permits, new_pass, slip_at}
-use Rattle.tab_seats.specs.Rule.{WordTells, most_strokes}
-use Rattle.tab_seats.specs.Offices.{MemberView, IsSeat, IsPass, IsNote, IsSlip}
-use Rattle.tab_seats.proofs.Holders.{at_view, from_view, HoldsSeat, HoldsPass, holds_drawn, holds_heeded, holds_fused, holds_met, next_drawn, right_drawn, seat_noted, right_noted, note_taken, seat_left, seat_right, pass_less, mine_met, one_more}
+use Rattle.std.proofs.Common.{◌-◌, ap}
+use Rattle.tab_seats.specs.Logs.{next_number}
+use Rattle.tab_seats.specs.Views.{less_permits}
+use Rattle.tab_seats.proofs.Holders.{at_view, HoldsPass, pass_less}
 use Rattle.tab_seats.proofs.passes.CallerPass.slip.Goals as goal
 
 pub new-requires : goal.new-requires

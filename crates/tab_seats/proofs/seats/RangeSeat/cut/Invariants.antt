@@ -1,5 +1,4 @@
-use Rattle.std.proofs.Common.{◌*◌, ◌^◌, Some, None}
-use Rattle.tab_keys.specs.declared.bounds.Bound.TheVariants.{End}
+use Rattle.std.proofs.Common.{None}
 use Rattle.tab_seats.proofs.seats.RangeSeat.cut.Given as goal
 
 abbrev pub ghosts-cut_as : goal.ghosts-cut_as

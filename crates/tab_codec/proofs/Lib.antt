@@ -1,0 +1,13 @@
+pub mod Loops
+pub mod FieldLaws
+pub mod KeyLaws
+pub mod TextLaws
+pub mod EntityLaws
+pub mod EntityFacts
+pub mod Sums
+pub mod FrontLaws
+pub mod OrderLaws
+pub mod RowLaws
+pub mod MapLaws
+pub mod BodyLaws
+pub mod FrameLaws

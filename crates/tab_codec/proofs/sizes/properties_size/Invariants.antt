@@ -1,0 +1,7 @@
+use Rattle.std.proofs.Common.{◌≡◌, length, take}
+use Rattle.std.specs.List.{flat_map}
+use Rattle.tab_codec.specs.Spelling.{property_spelling}
+use Rattle.tab_codec.proofs.sizes.properties_size.Given as goal
+
+abbrev pub invariant-loop-property : goal.invariant-loop-property
+invariant-loop-property l = l.size ≡ length (flat_map property_spelling (take l.property-index l.properties))

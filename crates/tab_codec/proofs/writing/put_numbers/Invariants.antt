@@ -1,0 +1,10 @@
+use Rattle.std.proofs.Common.{◌≡◌, ◌++◌, ◌<◌, ◌^◌, take}
+use Rattle.std.specs.List.{flat_map, AllByRecursion}
+use Rattle.std.specs.Int.{w64, to_be_bytes}
+use Rattle.tab_codec.proofs.writing.put_numbers.Given as goal
+
+abbrev pub invariant-loop-number : goal.invariant-loop-number
+invariant-loop-number l = record {
+  bytes : l.out.items ≡ l.fn.out.items ++ flat_map (to_be_bytes w64) (take l.number-index l.numbers);
+  parts : AllByRecursion (λ number. number < 2 ^ 64) (take l.number-index l.numbers);
+}
