@@ -72,8 +72,8 @@ struct Half {
     span: Span,
 }
 
-/// One call: the seat heeds the caller, draws and gives a note, which the caller meets. Where memory is wanting it
-/// stays out of the counts.
+/// One call: the seat heeds the caller, draws and gives a note, which the caller meets. Want of memory would show in the
+/// counts.
 fn call(half: &mut Half, pass: &mut CallerPass<Visit>, command: &Visit)
     requires office { pass.old.office ≡ half.old.seat.office }
     requires span { half.old.seat.view.span ≡ Some half.old.span }

@@ -16,8 +16,7 @@ last_two {C} {O} office view xs ys zs x y all e f =
 
 pub returns-clause-passes : goal.returns-clause-passes
 returns-clause-passes c =
-    let office = sym c.in-Ok.ensures.office.0 in
-    let same =
-    last_two c.in-Ok.seat.office _ c.in-Ok.passes.items c.pop.new.self.items c.pop-2.new.self.items c.in_ok-second.second c.in_ok-first.first
-    c.in-Ok.ensures.passes.1 c.in_ok-second.ensures.items c.in_ok-first.ensures.items in
+    let opened = c.in-Ok in
+    let office = sym opened.ensures.office.0 in
+    let same = last_two opened.seat.office _ opened.passes.items c.pop.new.self.items c.pop-2.new.self.items c.in_ok-second.second c.in_ok-first.first opened.ensures.passes.1 c.in_ok-second.ensures.items c.in_ok-first.ensures.items in
     (same.0 ∙ office, same.1 ∙ office)
