@@ -1,5 +1,6 @@
 -- Why the bytes of a message come to one decision.
 use Rattle.std.proofs.Common.{◌≡◌, ℕ, ◌⊎◌, List, refl, sym, ap, ◌∙◌, subst, inl, inr, Some, Result, Ok, Err}
+use Rattle.tab_auth.specs.SignedRequests.{IsSigned}
 use Rattle.tab_auth.specs.declared.signatures.Keys.{Keys}
 use Rattle.tab_http.specs.Heads.{HasNoHead}
 use Rattle.tab_http.specs.Messages.{Answer, Spells, IsParsers}
@@ -8,9 +9,11 @@ use Rattle.tab_http.specs.declared.refusals.HttpRefused.{HttpRefused}
 use Rattle.tab_http.specs.declared.refusals.HttpRefused.TheVariants as http
 use Rattle.tab_service.specs.Decisions.{IsDecision}
 use Rattle.tab_service.specs.Refusals.{http_fault}
+use Rattle.tab_service.specs.Signing.{signed_of}
+use Rattle.tab_service.specs.declared.forms.Request.{Request}
 use Rattle.tab_service.specs.declared.decisions.Decided.{Decided}
-use Rattle.tab_service.specs.declared.decisions.Decided.TheVariants.{No}
-use Rattle.tab_drive.specs.Messages.{whole, AreRead, ComeTo}
+use Rattle.tab_service.specs.declared.decisions.Decided.TheVariants.{Go, No}
+use Rattle.tab_drive.specs.Messages.{whole, AreRead, AreSigned, ComeTo}
 use Rattle.tab_drive.specs.Messages.ComeTo.{as_message, as_none}
 
 -- the law that bytes spell one answer, but where the parser decides between two refusals
@@ -83,3 +86,41 @@ one_decision law messages keys moment bytes a b (as_message m read is) (as_none 
 one_decision law messages keys moment bytes a b (as_none r reply other fault also) (as_message m read is) = absurd (apart m r (one_reading law bytes (Ok m) (Err r) read other))
 one_decision law messages keys moment bytes a b (as_none r reply read fault is) (as_none s answer other cause also) =
     is ∙ ap No (some_is reply answer (sym fault ∙ same_fault r s (one_reading law bytes (Err r) (Err s) read other) ∙ cause)) ∙ sym also
+
+-- ---- every call comes to something
+
+-- the law that bytes spell some answer
+abbrev pub SomeAnswer : Type 0
+SomeAnswer = (bytes : List ℕ) → ((answer : Answer) → Spells bytes answer → ⊥) → ⊥
+
+-- the law that a message has some decision
+abbrev pub HaveSomeDecision : Type 0
+HaveSomeDecision = (keys : Keys) (now : ℕ) (message : Message) → ((decided : Decided) → IsDecision keys now message decided → ⊥) → ⊥
+
+some_reading : HaveSomeDecision → (keys : Keys) (moment : ℕ) (bytes : List ℕ)
+    → ((message : Message) (decided : Decided) → AreRead bytes (Ok message) → IsDecision keys moment message decided → ⊥)
+    → ((refused : HttpRefused) → AreRead bytes (Err refused) → ⊥) → (found : Result Message HttpRefused) → AreRead bytes found → ⊥
+some_reading messages keys moment bytes none refuses (Ok message) read = messages keys moment message (λ decided is. none message decided read is)
+some_reading messages keys moment bytes none refuses (Err refused) read = refuses refused read
+
+pub some_decision : SomeAnswer → HaveSomeDecision → (keys : Keys) (moment : ℕ) (bytes : List ℕ)
+    → ((message : Message) (decided : Decided) → AreRead bytes (Ok message) → IsDecision keys moment message decided → ⊥)
+    → ((refused : HttpRefused) → AreRead bytes (Err refused) → ⊥) → ⊥
+some_decision answers messages keys moment bytes none refuses =
+    answers bytes (λ answer spells. some_reading messages keys moment bytes none refuses (whole answer) (record { answer = answer; spells = spells; found_is = refl }))
+
+-- ---- signed calls
+
+-- the law that a message comes to a request only where it is signed
+abbrev pub RequestsAreSigned : Type 0
+RequestsAreSigned = (keys : Keys) (key : List ℕ) (now : ℕ) (message : Message) (request : Request) → keys.key ≡ Some key
+    → IsDecision keys now message (Go request) → IsSigned keys.account key (signed_of message) now
+
+goes_or_not : (request : Request) (reply : List ℕ) → Go request ≡ No reply → ⊥
+goes_or_not request reply is = cc
+
+pub signed_calls : RequestsAreSigned → (keys : Keys) (key : List ℕ) (moment : ℕ) (bytes : List ℕ) (request : Request) → keys.key ≡ Some key
+    → ComeTo keys moment bytes (Go request) → AreSigned keys.account key bytes moment
+signed_calls law keys key moment bytes request is (as_message message read decided) =
+    record { message = message; read = read; signed = law keys key moment message request is decided }
+signed_calls law keys key moment bytes request is (as_none refused reply read fault other) = absurd (goes_or_not request reply other)

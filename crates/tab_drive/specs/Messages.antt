@@ -1,5 +1,6 @@
 -- What the bytes of a call come to: one message, which asks something or is refused, or no message.
 use Rattle.std.specs.Prelude.{◌≡◌, ℕ, List, [], ◌∷◌, Some, Result, Ok, Err}
+use Rattle.tab_auth.specs.SignedRequests.{IsSigned}
 use Rattle.tab_auth.specs.declared.signatures.Keys.{Keys}
 use Rattle.tab_http.specs.Messages.{Answer, Spells}
 use Rattle.tab_http.specs.declared.messages.Message.{Message}
@@ -7,6 +8,7 @@ use Rattle.tab_http.specs.declared.refusals.HttpRefused.{HttpRefused}
 use Rattle.tab_http.specs.declared.refusals.HttpRefused.TheVariants as http
 use Rattle.tab_service.specs.Decisions.{IsDecision}
 use Rattle.tab_service.specs.Refusals.{http_fault}
+use Rattle.tab_service.specs.Signing.{signed_of}
 use Rattle.tab_service.specs.declared.decisions.Decided.{Decided}
 use Rattle.tab_service.specs.declared.decisions.Decided.TheVariants.{No}
 
@@ -35,3 +37,9 @@ pub record AreRead (bytes : List ℕ) (found : Result Message HttpRefused) : Typ
 pub data ComeTo (keys : Keys) (moment : ℕ) (bytes : List ℕ) (decided : Decided) : Type 0 where
   as_message : (message : Message) → AreRead bytes (Ok message) → IsDecision keys moment message decided → ComeTo keys moment bytes decided
   as_none : (refused : HttpRefused) (reply : List ℕ) → AreRead bytes (Err refused) → http_fault refused ≡ Some reply → decided ≡ No reply → ComeTo keys moment bytes decided
+
+-- the bytes are one message, signed with the account's key at that moment
+pub record AreSigned (account key bytes : List ℕ) (moment : ℕ) : Type 0 where
+  pub message : Message
+  pub read : AreRead bytes (Ok message)
+  pub signed : IsSigned account key (signed_of message) moment

@@ -1,13 +1,18 @@
 //! Laws over definitions, each on a function with an empty body.
-ghost use Rattle.std.specs.Prelude.{◌≡◌, ℕ, List, ◌++◌, length};
+ghost use Rattle.std.specs.Prelude.{◌≡◌, ℕ, List, ◌++◌, length, Some, Ok, Err};
 ghost use Rattle.tab_auth.specs.declared.signatures.Keys.{Keys};
 ghost use Rattle.tab_history.specs.declared.entries.Entry.{Entry};
+ghost use Rattle.tab_http.specs.declared.messages.Message.{Message};
+ghost use Rattle.tab_http.specs.declared.refusals.HttpRefused.{HttpRefused};
+ghost use Rattle.tab_service.specs.Decisions.{IsDecision};
 ghost use Rattle.tab_service.specs.declared.decisions.Decided.{Decided};
-ghost use Rattle.tab_drive.specs.Messages.{ComeTo};
+ghost use Rattle.tab_service.specs.declared.decisions.Decided.TheVariants as Decided;
+ghost use Rattle.tab_service.specs.declared.forms.Request.{Request};
+ghost use Rattle.tab_drive.specs.Messages.{AreRead, AreSigned, ComeTo};
 ghost use Rattle.tab_drive.specs.RunStates.{RunState, Exchange, Follows, bytes_of, entries_of, text_of};
 
-use tab_http::bytes_spell_one_answer;
-use tab_service::messages_have_one_decision;
+use tab_http::{bytes_spell_one_answer, bytes_spell_some_answer};
+use tab_service::{messages_have_one_decision, messages_have_some_decision, requests_are_signed};
 
 /// The bytes of a message come to one request, or to the reply to one refusal.
 pub fn one_decision()
@@ -15,6 +20,24 @@ pub fn one_decision()
 {
     bytes_spell_one_answer();
     messages_have_one_decision();
+}
+
+/// There are no bytes of a call that come to nothing: they are a message, which has a decision, or are refused as none.
+pub fn calls_come_to_something()
+    ensures { (keys : Keys) (moment : ℕ) (bytes : List ℕ)
+        → ((message : Message) (decided : Decided) → AreRead bytes (Ok message) → IsDecision keys moment message decided → ⊥)
+        → ((refused : HttpRefused) → AreRead bytes (Err refused) → ⊥) → ⊥ }
+{
+    bytes_spell_some_answer();
+    messages_have_some_decision();
+}
+
+/// A call of an account with a key comes to a request only where it is signed, at this moment.
+pub fn calls_are_signed()
+    ensures { (keys : Keys) (key : List ℕ) (moment : ℕ) (bytes : List ℕ) (request : Request) → keys.key ≡ Some key
+        → ComeTo keys moment bytes (Decided.Go request) → AreSigned keys.account key bytes moment }
+{
+    requests_are_signed();
 }
 
 /// What is written is a function of what is read and of the history.

@@ -18,7 +18,7 @@ mod tables;
 #[cfg(test)]
 mod tests;
 
-pub use laws::{one_decision, one_text};
+pub use laws::{calls_are_signed, calls_come_to_something, one_decision, one_text};
 pub use outgoing::{Outgoing, write_outgoing, write_pieces};
 pub use reading::{NextEvent, Unread, next_event};
 pub use runs::{Ended, run};
