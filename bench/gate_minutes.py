@@ -68,7 +68,9 @@ def main():
             grown = bool(more)
         for pid, _, seconds, words, folder in seen:
             if pid in below:
-                spent[pid] = (kind_of(words, folder), seconds)
+                # (a process that has ended and waits for its parent has no words any more)
+                kind = spent[pid][0] if pid in spent and not words[0] else kind_of(words, folder)
+                spent[pid] = (kind, seconds)
         time.sleep(0.25)
     used = resource.getrusage(resource.RUSAGE_CHILDREN)
     sums = {}
