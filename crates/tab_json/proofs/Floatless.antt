@@ -58,11 +58,6 @@ unfolding AreFloatless
 AreFloatless-append [] b first second = second
 AreFloatless-append (m ∷ a) b first second = (first.0, AreFloatless-append a b first.1 second)
 
-AreFloatless-flat_map : {X : Type 0} (f : X → List Member) (each : (x : X) → AreFloatless (f x)) (xs : List X) → AreFloatless (flat_map f xs)
-unfolding AreFloatless
-AreFloatless-flat_map f each [] = tt
-AreFloatless-flat_map f each (x ∷ xs) = AreFloatless-append (f x) (flat_map f xs) (each x) (AreFloatless-flat_map f each xs)
-
 AreFloatless-if : (b : Bool) (ms : List Member) → AreFloatless ms → AreFloatless (if b then ms else [])
 unfolding AreFloatless
 AreFloatless-if true ms all = all
@@ -73,67 +68,8 @@ AreFloatless-text : (name text : List ℕ) → AreFloatless ((name, string text)
 unfolding AreFloatless
 AreFloatless-text name text = (refl, tt)
 
-floatless-of_integer : (z : ℤ) → is_float (of_integer z) ≡ false
-floatless-of_integer (pos n) = refl
-floatless-of_integer (negsuc n) = refl
-
-floatless-value_data : (value : Value) → has_float (value_data value) ≡ false
-unfolding value_data
-floatless-value_data (Text text) = refl
-floatless-value_data (Flag b) = refl
-floatless-value_data (Int32 n) = floatless-of_integer n
-floatless-value_data (Int64 n) = refl
-floatless-value_data (Moment tick) = refl
-floatless-value_data (Guid bytes) = refl
-floatless-value_data (Bytes bytes) = refl
-
-AreFloatless-annotation : (p : Property) → AreFloatless (annotation p)
-unfolding annotation AreFloatless
-AreFloatless-annotation p = elim (annotated_type p.value) as (λ kind. AreFloatless (option_to_list (option_map (λ k. (p.name ++ codes "@odata.type", string k)) kind))) [ None ↦ tt | Some kind ↦ (refl, tt) ]
-
-AreFloatless-property_members : (form : JsonForm) (p : Property) → AreFloatless (property_members form p)
-unfolding property_members AreFloatless
-AreFloatless-property_members form p =
-    AreFloatless-if (is_selected form.select p.name) ((p.name, value_data p.value) ∷ (if form.minimal then annotation p else []))
-    (floatless-value_data p.value, AreFloatless-if form.minimal (annotation p) (AreFloatless-annotation p))
-
-AreFloatless-key_members : (form : JsonForm) (version : VersionView) → AreFloatless (key_members form version)
-unfolding key_members
-AreFloatless-key_members form version =
-    AreFloatless-append _ _
-    (AreFloatless-append _ _
-    (AreFloatless-if (is_selected form.select (codes "PartitionKey")) _ (AreFloatless-text (codes "PartitionKey") version.pk))
-    (AreFloatless-if (is_selected form.select (codes "RowKey")) _ (AreFloatless-text (codes "RowKey") version.rk)))
-    (AreFloatless-if (is_selected form.select (codes "Timestamp")) _ (AreFloatless-text (codes "Timestamp") _))
-
-AreFloatless-entity_members : (form : JsonForm) (version : VersionView) → AreFloatless (entity_members form version)
-unfolding entity_members
-AreFloatless-entity_members form version =
-    AreFloatless-append _ _
-    (AreFloatless-append _ _
-    (AreFloatless-flat_map (property_members form) (AreFloatless-property_members form) version.properties)
-    (AreFloatless-key_members form version))
-    (AreFloatless-if form.minimal _ (AreFloatless-text (codes "odata.etag") _))
-
 AreFloatless-metadata : (form : JsonForm) (address : List ℕ) → AreFloatless (metadata form address)
 AreFloatless-metadata form address = AreFloatless-if form.minimal _ (AreFloatless-text (codes "odata.metadata") address)
-
-pub floatless-entity_data : (account name : List ℕ) (form : JsonForm) (version : VersionView) → has_float (entity_data account name form version) ≡ false
-unfolding entity_data
-floatless-entity_data account name form version =
-    floatless-object_of _
-    (AreFloatless-append _ _ (AreFloatless-entity_members form version) (AreFloatless-metadata form (metadata_address account name ++ codes "/@Element")))
-
-floatless-rows : (form : JsonForm) (rows : List RowView) → items_have_float (items_of (map (λ row. object_of (entity_members form (version_of row))) rows)) ≡ false
-floatless-rows form [] = refl
-floatless-rows form (row ∷ rows) =
-    or_neither (has_float (object_of (entity_members form (version_of row)))) _
-    (floatless-object_of (entity_members form (version_of row)) (AreFloatless-entity_members form (version_of row))) (floatless-rows form rows)
-
-pub floatless-page_data : (account name : List ℕ) (form : JsonForm) (rows : List RowView) → has_float (page_data account name form rows) ≡ false
-unfolding page_data AreFloatless
-floatless-page_data account name form rows =
-    floatless-object_of _ (AreFloatless-append _ _ (AreFloatless-metadata form (metadata_address account name)) (floatless-rows form rows, tt))
 
 floatless-message_data : (value : List ℕ) → has_float (message_data value) ≡ false
 unfolding message_data AreFloatless

@@ -11,3 +11,5 @@ pub mod FlatObjects
 pub mod PlainNames
 pub mod ValueTrips
 pub mod RoundTripLaws
+mod SlotLemmas
+mod WrittenLemmas

@@ -24,7 +24,7 @@ pub put_both : (ms ms1 ms2 : Members) (a b : List Member) → ms1 ≡ with_membe
 put_both ms ms1 ms2 a b first second = second ∙ ap (λ m. with_members m b) first ∙ sym (with_members-append ms a b)
 
 -- what one more element gives comes last
-flat_map-take-more : {X A : Type 0} (f : X → List A) (xs : List X) (i : ℕ) (x : X)
+pub flat_map-take-more : {X A : Type 0} (f : X → List A) (xs : List X) (i : ℕ) (x : X)
     → i < length xs → x ≡ get_or xs i x → flat_map f (take (i + 1) xs) ≡ flat_map f (take i xs) ++ f x
 flat_map-take-more f xs i x below is =
     ap (flat_map f) (take_more xs i x below)

@@ -1,17 +1,30 @@
 //! The texts of entities and of pages (OData 3.0, JSON Format, "Representing an Entity" and "Representing a Feed").
-ghost use Rattle.std.specs.Prelude.{◌≡◌, ◌≤◌, IfOk, map, string_bytes};
-ghost use Rattle.serde_json.specs.View.{view};
-ghost use Rattle.tab_json.specs.Entities.{version_of, entity_members, entity_data, page_data, entity_json, page_json};
+ghost use Rattle.std.specs.Prelude.{◌≡◌, ◌≤◌, ◌++◌, ◌∷◌, [], IfOk, OnOk, flat_map, string_bytes};
+ghost use Rattle.json.specs.Print.{print};
+ghost use Rattle.json.specs.Token.{begin_object, end_object};
+ghost use Rattle.serde_json.specs.Written.{compact_text};
+ghost use Rattle.tab_json.specs.Entities.{version_of, entity_members, metadata, entity_json, page_json};
 ghost use Rattle.tab_json.specs.Objects.{object_of};
+ghost use Rattle.tab_json.specs.Written.{row_written, rows_written, metadata_written, page_written};
 
-use crate::members_written::{entity_members, put_metadata};
-use serde_json::{Map, Value as Json, push, put};
-use std::alloc::Global;
+use crate::members_written::{metadata_address, put_address, put_entity};
+use crate::texts::JsonText;
+use crate::written::WrittenMembers;
+use json::Token;
+use std::alloc::{AllocError, Global};
 use std::marker::Model;
 use tab_edm::{Entity, GREATEST};
 use tab_keys::{KeyText, Memory, TableName};
 use tab_page::{Page, Select};
 use tab_rows::Row;
+
+/// The members for which there is room at first: the keys, the moment, and some properties.
+const MEMBERS: usize = 16;
+
+/// The bytes for which there is room at first: of an entity alone, and of each row of a page.
+const ENTITY_ROOM: usize = 256;
+
+const ROW_ROOM: usize = 160;
 
 /// How entities are written: with minimal metadata or with none, and which of their properties.
 #[derive(Debug, Drop)]
@@ -45,8 +58,8 @@ pub fn write_version(
 ) -> Result<String, Memory>
     ensures { IfOk result (λ text. string_bytes text ≡ entity_json account.now name.now form.now version.now) }
 {
-    let value = entity_value(alloc, account, name.as_str(), version, form)?;
-    Ok(value.to_string(alloc)?)
+    let address = metadata_address(alloc, account, name.as_str(), "/@Element", form)?;
+    addressed_text(alloc, address.as_str(), version, form)
 }
 
 /// The entities of a page. Where the next page begins is no part of the text.
@@ -59,9 +72,8 @@ pub fn write_page(
 ) -> Result<String, Memory>
     ensures { IfOk result (λ text. string_bytes text ≡ page_json account.now name.now form.now page.now.rows) }
 {
-    let rows = page.rows.as_slice();
-    let value = page_value(alloc, account, name.as_str(), rows, form)?;
-    Ok(value.to_string(alloc)?)
+    let address = metadata_address(alloc, account, name.as_str(), "", form)?;
+    page_text(alloc, address.as_str(), page.rows.as_slice(), form)
 }
 
 /// What a client sees of a row: an entity with its keys and the tick of the change that wrote it.
@@ -120,47 +132,116 @@ impl<'a> Version<'a> {
     }
 }
 
-#[tactic(auto, unfolding(crate::specs::Entities::entity_data))]
-fn entity_value(
+/// The text of an entity whose metadata has this address.
+#[tactic(auto, unfolding(crate::specs::Objects::object_of))]
+fn addressed_text(
     alloc: Global,
-    account: &str,
-    name: &str,
+    address: &str,
     version: &Version,
     form: &JsonForm,
-) -> Result<Json, Memory>
-    ensures { IfOk result (λ value. view value ≡ entity_data account.now name.now form.now version.now) }
+) -> Result<String, Memory>
+    ensures { IfOk result (λ text. string_bytes text ≡ compact_text (object_of (entity_members form.now version.now ++ metadata form.now address.now))) }
 {
-    let mut members = entity_members(alloc, version, form)?;
-    put_metadata(&mut members, alloc, account, name, "/@Element", form)?;
-    Ok(Json::from(members))
+    let mut members = WrittenMembers::with_capacity(alloc, MEMBERS)?;
+    put_entity(&mut members, version, form)?;
+    put_address(&mut members, address, form)?;
+    let mut text = JsonText::with_capacity(alloc, ENTITY_ROOM)?;
+    text.write_object(&members)?;
+    Ok(text.finish())
 }
 
-#[tactic(auto, unfolding(crate::specs::Entities::page_data))]
-fn page_value(
+/// The text of a page whose metadata has this address.
+fn page_text(alloc: Global, address: &str, rows: &[Row], form: &JsonForm) -> Result<String, Memory>
+    ensures { IfOk result (λ text. string_bytes text ≡ print (begin_object ∷ (page_written form.now address.now rows.now ++ end_object ∷ []))) }
+{
+    let mut text = JsonText::with_capacity(
+        alloc,
+        rows.len()
+            .saturating_mul(ROW_ROOM)
+            .saturating_add(ENTITY_ROOM),
+    )?;
+    write_page_object(&mut text, alloc, address, rows, form)?;
+    Ok(text.finish())
+}
+
+fn write_page_object(
+    text: &mut JsonText,
     alloc: Global,
-    account: &str,
-    name: &str,
+    address: &str,
     rows: &[Row],
     form: &JsonForm,
-) -> Result<Json, Memory>
-    ensures { IfOk result (λ value. view value ≡ page_data account.now name.now form.now rows.now) }
+) -> Result<(), Memory>
+    ensures { OnOk result (text.new ≡ text.old ++ begin_object ∷ (page_written form.now address.now rows.now ++ end_object ∷ [])) }
 {
-    let mut members = Map::new(alloc);
-    put_metadata(&mut members, alloc, account, name, "", form)?;
-    let values = row_values(alloc, rows, form)?;
-    put(&mut members, alloc, "value", Json::from(values))?;
-    Ok(Json::from(members))
+    text.write(Token::BeginObject)?;
+    write_page_members(text, alloc, address, rows, form)?;
+    text.write(Token::EndObject)?;
+    Ok(())
+}
+
+fn write_page_members(
+    text: &mut JsonText,
+    alloc: Global,
+    address: &str,
+    rows: &[Row],
+    form: &JsonForm,
+) -> Result<(), Memory>
+    ensures { OnOk result (text.new ≡ text.old ++ page_written form.now address.now rows.now) }
+{
+    write_metadata(text, address, form)?;
+    text.write(Token::Key("value"))?;
+    write_array(text, alloc, rows, form)
+}
+
+fn write_metadata(text: &mut JsonText, address: &str, form: &JsonForm) -> Result<(), AllocError>
+    ensures { OnOk result (text.new ≡ text.old ++ metadata_written form.now address.now) }
+{
+    if form.minimal {
+        text.write(Token::Key("odata.metadata"))?;
+        text.write(Token::String(address))?;
+    }
+    Ok(())
+}
+
+fn write_array(
+    text: &mut JsonText,
+    alloc: Global,
+    rows: &[Row],
+    form: &JsonForm,
+) -> Result<(), Memory>
+    ensures { OnOk result (text.new ≡ text.old ++ rows_written form.now rows.now) }
+{
+    text.write(Token::BeginArray)?;
+    write_rows(text, alloc, rows, form)?;
+    text.write(Token::EndArray)?;
+    Ok(())
+}
+
+fn write_rows(
+    text: &mut JsonText,
+    alloc: Global,
+    rows: &[Row],
+    form: &JsonForm,
+) -> Result<(), Memory>
+    ensures { OnOk result (text.new ≡ text.old ++ flat_map (row_written form.now) rows.now) }
+{
+    let mut members = WrittenMembers::with_capacity(alloc, MEMBERS)?;
+    for row in rows {
+        write_row(text, &mut members, row, form)?;
+    }
+    Ok(())
 }
 
 #[tactic(auto, unfolding(crate::specs::Objects::object_of))]
-fn row_values(alloc: Global, rows: &[Row], form: &JsonForm) -> Result<Vec<Json>, Memory>
-    ensures { IfOk result (λ values. map view values.items
-        ≡ map (λ row. object_of (entity_members form.now (version_of row))) rows.now) }
+fn write_row<'a>(
+    text: &mut JsonText,
+    members: &mut WrittenMembers<'a>,
+    row: &'a Row,
+    form: &JsonForm,
+) -> Result<(), Memory>
+    ensures { OnOk result (text.new ≡ text.old ++ row_written form.now row.now) }
 {
-    let mut values = Vec::with_capacity(alloc, rows.len())?;
-    for row in rows {
-        let members = entity_members(alloc, &Version::of(row), form)?;
-        push(&mut values, Json::from(members))?;
-    }
-    Ok(values)
+    members.clear();
+    put_entity(members, &Version::of(row), form)?;
+    text.write_object(members)
 }

@@ -7,9 +7,12 @@ mod faults;
 mod laws;
 mod members_read;
 mod members_written;
+mod slots;
 mod tables;
+mod texts;
 mod types;
 mod values;
+mod written;
 
 pub use bodies::{BodyEntity, JsonRefused, Properties, read_entity, read_table};
 pub use entities::{JsonForm, Version, write_entity, write_page, write_version};

@@ -1,12 +1,13 @@
 //! The texts of a table and of lists of tables (the Table service REST reference, "Create Table" and "Query Tables").
-ghost use Rattle.std.specs.Prelude.{◌≡◌, [], ◌∷◌, IfOk, codes, map, string_bytes};
+ghost use Rattle.std.specs.Prelude.{◌≡◌, [], ◌∷◌, ◌++◌, IfOk, OnOk, codes, map, string_bytes};
 ghost use Rattle.serde_json.specs.Data.{no_members};
 ghost use Rattle.serde_json.specs.View.{view, members_view};
+ghost use Rattle.tab_json.specs.Entities.{metadata, metadata_address};
 ghost use Rattle.tab_json.specs.Objects.{object_of, with_members};
 ghost use Rattle.tab_json.specs.Tables.{table_name, table_data, tables_data, table_json, tables_json};
 
 use crate::JsonForm;
-use crate::members_written::put_metadata;
+use crate::members_written::metadata_address;
 use serde_json::{Map, Value as Json, push, put};
 use std::alloc::Global;
 use tab_keys::{Memory, TableName};
@@ -42,7 +43,7 @@ fn table_value(alloc: Global, account: &str, name: &str, form: &JsonForm) -> Res
     ensures { IfOk result (λ value. view value ≡ table_data account.now name.now form.now) }
 {
     let mut members = name_members(alloc, name)?;
-    put_metadata(&mut members, alloc, account, "Tables", "/@Element", form)?;
+    put_metadata(&mut members, alloc, account, "/@Element", form)?;
     Ok(Json::from(members))
 }
 
@@ -56,7 +57,7 @@ fn tables_value(
     ensures { IfOk result (λ value. view value ≡ tables_data account.now names.now form.now) }
 {
     let mut members = Map::new(alloc);
-    put_metadata(&mut members, alloc, account, "Tables", "", form)?;
+    put_metadata(&mut members, alloc, account, "", form)?;
     let values = table_values(alloc, names)?;
     put(&mut members, alloc, "value", Json::from(values))?;
     Ok(Json::from(members))
@@ -86,4 +87,23 @@ fn name_members(alloc: Global, name: &str) -> Result<Map<String, Json>, Memory>
         Json::try_from_str(alloc, name)?,
     )?;
     Ok(members)
+}
+
+/// Puts the address of the metadata of the list of tables, or with a suffix of one table.
+#[tactic(auto, unfolding(crate::specs::Objects::with_members))]
+fn put_metadata(
+    members: &mut Map<String, Json>,
+    alloc: Global,
+    account: &str,
+    suffix: &str,
+    form: &JsonForm,
+) -> Result<(), Memory>
+    ensures { OnOk result (members_view members.new.entries
+        ≡ with_members (members_view members.old.entries) (metadata form.now (metadata_address account.now (codes "Tables") ++ suffix.now))) }
+{
+    if form.minimal {
+        let address = metadata_address(alloc, account, "Tables", suffix, form)?;
+        put(members, alloc, "odata.metadata", Json::from(address))?;
+    }
+    Ok(())
 }

@@ -1,11 +1,11 @@
 use Rattle.std.proofs.Common.{sym}
-use Rattle.serde_json.specs.View.{members_view}
 use Rattle.tab_json.specs.Entities.{property_members}
+use Rattle.tab_json.specs.Written.{written_members}
 use Rattle.tab_json.proofs.ObjectLemmas.{with_members-nil, put_more}
 use Rattle.tab_json.proofs.members_written.put_properties.Goals as goal
 
 pub loop-property-init : goal.loop-property-init
-loop-property-init c = sym (with_members-nil (members_view c.args.members.now.entries))
+loop-property-init c = sym (with_members-nil (written_members c.args.members.now))
 
 pub loop-property-preserved : goal.loop-property-preserved
 loop-property-preserved c =
