@@ -3,12 +3,13 @@ ghost use Rattle.std.specs.Prelude.{◌≡◌, Some, IfSome, []};
 ghost use Rattle.tab_keys.specs.declared.bounds.Bound.TheVariants.{At};
 ghost use Rattle.tab_seats.specs.Views.{everything};
 
-use super::*;
+use crate::texts::key_text;
 use std::alloc::Global;
 use std::snapshot::Snapshot;
-use std::test::*;
+use std::test::Fail;
 use std::thread::{Threads, join};
 use tab_keys::{Bound, Key, KeyText, Span};
+use tab_seats::{CallerPass, Keyed, Office, RangeSeat};
 
 /// A caller that looks in at a key.
 #[derive(Drop)]
@@ -23,12 +24,11 @@ impl Keyed for Visit {
 }
 
 fn visit_at(alloc: Global, table: u64) -> Option<Visit> {
-    let key = Key {
-        table,
-        pk: KeyText::new(alloc, "p").ok()?,
-        rk: KeyText::new(alloc, "r").ok()?,
-    };
-    Some(Visit { key })
+    let pk = key_text(alloc, "p")?;
+    let rk = key_text(alloc, "r")?;
+    Some(Visit {
+        key: Key { table, pk, rk },
+    })
 }
 
 /// A visit on each side of the cut that `halves` makes.
@@ -126,14 +126,30 @@ fn bound(alloc: Global, table: u64) -> Option<Bound>
     Some(Bound::At(table, KeyText::new(alloc, "").ok()?))
 }
 
+/// The keys from a table on.
+fn span_from(alloc: Global, table: u64, hi: Bound) -> Option<Span>
+    ensures { IfSome result (λ s. (s.lo ≡ At table []) × (s.hi ≡ hi)) }
+{
+    let lo = bound(alloc, table)?;
+    Span::new(lo, hi)
+}
+
+/// The keys below table 5.
+fn low(alloc: Global) -> Option<Span>
+    ensures { IfSome result (λ s. (s.lo ≡ At 0 []) × (s.hi ≡ At 5 [])) }
+{
+    let hi = bound(alloc, 5)?;
+    span_from(alloc, 0, hi)
+}
+
 /// The seat over all keys cut at a table's first bound.
 fn halves(alloc: Global, seat: RangeSeat<Visit>) -> Option<(Half, Half)>
     requires { seat.view.span ≡ Some everything }
     ensures office { IfSome result (λ r. (r.0.seat.office ≡ seat.office) × (r.1.seat.office ≡ seat.office)) }
     ensures spans { IfSome result (λ r. (r.0.seat.view.span ≡ Some r.0.span) × (r.1.seat.view.span ≡ Some r.1.span) × (r.0.span.hi ≡ r.1.span.lo)) }
 {
-    let low = Span::new(bound(alloc, 0)?, bound(alloc, 5)?)?;
-    let high = Span::new(bound(alloc, 5)?, Bound::End)?;
+    let low = low(alloc)?;
+    let high = span_from(alloc, 5, Bound::End)?;
     match seat.cut(low.hi()) {
         Ok((left, right)) => Some((
             Half {
@@ -225,6 +241,19 @@ struct Side {
     pass: CallerPass<Visit>,
 }
 
+fn call_thrice(half: &mut Half, pass: &mut CallerPass<Visit>, command: &Visit)
+    requires office { pass.old.office ≡ half.old.seat.office }
+    requires span { half.old.seat.view.span ≡ Some half.old.span }
+    ensures seat { half.new.seat.office ≡ half.old.seat.office }
+    ensures pass { pass.new.office ≡ pass.old.office }
+    ensures covers { half.new.seat.view.span ≡ Some half.new.span }
+    ensures span { half.new.span ≡ half.old.span }
+{
+    call(half, pass, command);
+    call(half, pass, command);
+    call(half, pass, command);
+}
+
 /// Three calls with what a thread has, which is handed back.
 fn three_calls(side: Side, command: &Visit) -> Side
     requires office { side.pass.office ≡ side.half.seat.office }
@@ -234,9 +263,7 @@ fn three_calls(side: Side, command: &Visit) -> Side
     ensures span { result.half.span ≡ side.half.span }
 {
     let Side { mut half, mut pass } = side;
-    call(&mut half, &mut pass, command);
-    call(&mut half, &mut pass, command);
-    call(&mut half, &mut pass, command);
+    call_thrice(&mut half, &mut pass, command);
     Side { half, pass }
 }
 

@@ -3,8 +3,8 @@
 ghost use Rattle.std.specs.Prelude.{None};
 ghost use Rattle.tab_outside.specs.Sides.{nothing_beside};
 
-use crate::{Ended, run};
 use std::alloc::{AllocError, Global};
+use tab_drive::{Ended, run};
 use tab_outside::{Failed, MemDisk, SetClock, Sink, Source};
 
 /// A source that gives one byte a call, and does not tell what is left.
@@ -41,6 +41,15 @@ pub struct ByteSink {
     pub faults: u64,
 }
 
+impl ByteSink {
+    pub fn new(alloc: Global) -> ByteSink {
+        ByteSink {
+            bytes: Vec::new(alloc),
+            faults: 0,
+        }
+    }
+}
+
 impl Sink for ByteSink {
     ghost taken = { λ _. None };
 
@@ -62,16 +71,22 @@ impl Sink for ByteSink {
     }
 }
 
-/// Runs a schedule for the open account `shop`. Nothing is said of what comes, since the tests say it.
+/// The words of a command for the open account `shop`.
+fn words(alloc: Global) -> Result<Vec<String>, AllocError> {
+    let mut words = Vec::new(alloc);
+    for word in ["drive", "shop", "-"] {
+        words.push(String::from_str(alloc, word)?)?;
+    }
+    Ok(words)
+}
+
+/// Runs a schedule. Nothing is said of what comes, since the tests say it.
 pub fn run_over<S: Source, K: Sink>(
     alloc: Global,
     source: &mut S,
     sink: &mut K,
 ) -> Result<Ended, AllocError> {
-    let mut words = Vec::new(alloc);
-    for word in ["drive", "shop", "-"] {
-        words.push(String::from_str(alloc, word)?)?;
-    }
+    let words = words(alloc)?;
     let mut yard: Vec<MemDisk> = Vec::new(alloc);
     let mut clock = SetClock::new(0);
     Ok(run(alloc, words.as_slice(), source, sink, &mut yard, &mut clock))

@@ -2,7 +2,7 @@ use Rattle.std.proofs.Common.{◌∙◌, ◌≡◌, ◌++◌, List, Some, All, o
 use Rattle.std.proofs.lemmas.List.Elements.{All-pop}
 use Rattle.tab_seats.specs.declared.views.View.{View}
 use Rattle.tab_seats.specs.Offices.{OfficeId, MemberView}
-use Rattle.tab_seats.proofs.tests.open_for_two.Goals as goal
+use Rattle.tab_tests.proofs.seats.open_for_two.Goals as goal
 
 -- the last two of a list whose elements are all of one office
 last_two : {C O : Type 0} (office : OfficeId O) (view : View C) (xs ys zs : List (MemberView C O)) (x y : MemberView C O)
