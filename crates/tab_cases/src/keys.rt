@@ -86,7 +86,12 @@ pub fn key(alloc: Global, fields: &[String], at: usize) -> Result<Key, Stop> {
 
 /// The key text of a field, which has to be one.
 pub fn key_text(alloc: Global, fields: &[String], at: usize) -> Result<KeyText, Stop> {
-    match KeyText::new(alloc, field(fields, at)?) {
+    text_of_key(alloc, field(fields, at)?)
+}
+
+/// The key text of a text, which has to be one.
+pub fn text_of_key(alloc: Global, text: &str) -> Result<KeyText, Stop> {
+    match KeyText::new(alloc, text) {
         Ok(key) => Ok(key),
         Err(_) => Err(Stop::Unread("a key text is wanted")),
     }

@@ -37,3 +37,9 @@ impl From<tab_edm::Memory> for Stop {
         NO_MEMORY
     }
 }
+
+impl From<tab_batch::Memory> for Stop {
+    fn from(_memory: tab_batch::Memory) -> Stop {
+        NO_MEMORY
+    }
+}

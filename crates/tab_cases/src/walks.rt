@@ -1,5 +1,6 @@
 //! The walk over the lines of a file of cases: what is given, and the answer that is due to it.
 
+use crate::answers::Answer;
 use crate::escapes::text;
 use crate::stops::Stop;
 use crate::subjects::answer;
@@ -23,6 +24,8 @@ pub struct Walk<'l> {
     pub due: String,
     /// The fields that stand before those of each line.
     with: &'l str,
+    /// The lines of the block before the next line that asks.
+    block: String,
 }
 
 impl<'l> Walk<'l> {
@@ -35,6 +38,7 @@ impl<'l> Walk<'l> {
             came: None,
             due: String::new(alloc),
             with: "",
+            block: String::new(alloc),
         }
     }
 
@@ -87,14 +91,27 @@ impl<'l> Walk<'l> {
         }
     }
 
-    /// Takes a line that gives fields to the next ones, or asks.
+    /// Takes a line that gives something, by its word.
     fn give(&mut self, line: &'l str) -> Result<(), Stop> {
         let (word, given) = split_word(line);
-        if word == "with" {
-            self.with = given;
-            return Ok(());
+        match word {
+            "with" => {
+                self.with = given;
+                Ok(())
+            }
+            "crlf" => self.add(given, "\r\n"),
+            "lf" => self.add(given, "\n"),
+            "text" => self.add(given, ""),
+            _ => self.ask(line),
         }
-        self.ask(line)
+    }
+
+    /// Adds a line to the block.
+    fn add(&mut self, given: &str, end: &str) -> Result<(), Stop> {
+        let line = text(self.alloc, given)?;
+        self.block.push_str(line.as_str())?;
+        self.block.push_str(end)?;
+        Ok(())
     }
 
     /// Asks what a line comes to. Its answer is due behind the arrow, or on the next line.
@@ -108,17 +125,18 @@ impl<'l> Walk<'l> {
         }
     }
 
-    /// Finds the answer to a line, with the fields that hold here.
+    /// Finds the answer to a line, with the fields that hold here and the block before it.
     fn answer(&mut self, line: &str) -> Result<(), Stop> {
         let (word, given) = split_word(line);
         let fields = fields(self.alloc, self.with, given)?;
-        self.answer_of(word, fields.as_slice())
+        let came = self.came_of(word, fields.as_slice())?;
+        self.came = Some(came);
+        self.block.clear();
+        Ok(())
     }
 
-    fn answer_of(&mut self, word: &str, fields: &[String]) -> Result<(), Stop> {
-        let came = answer(self.alloc, self.subject, word, fields)?;
-        self.came = Some(came);
-        Ok(())
+    fn came_of(&self, word: &str, fields: &[String]) -> Answer {
+        answer(self.alloc, self.subject, word, fields, self.block.as_str())
     }
 }
 

@@ -13,8 +13,6 @@ mod prepared;
 mod reading;
 mod sizes;
 mod stops;
-#[cfg(test)]
-mod tests;
 mod writing;
 
 pub use frames::{Frame, RangeRow};

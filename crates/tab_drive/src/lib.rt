@@ -15,8 +15,6 @@ mod serving;
 mod session;
 mod stores;
 mod tables;
-#[cfg(test)]
-mod tests;
 
 pub use laws::{calls_are_signed, calls_come_to_something, one_decision, one_text};
 pub use outgoing::{Outgoing, write_outgoing, write_pieces};

@@ -10,8 +10,6 @@ mod logs;
 mod mem_disk;
 mod sinks;
 mod sources;
-#[cfg(test)]
-mod tests;
 mod transfers;
 
 pub use clocks::{Clock, SetClock};

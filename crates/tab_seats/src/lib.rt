@@ -10,8 +10,6 @@ mod seats;
 mod slips;
 mod steps;
 mod tallies;
-#[cfg(test)]
-mod tests;
 mod views;
 
 pub use laws::seven_parts;
