@@ -1,5 +1,5 @@
 -- Why the bytes of a message come to one decision.
-use Rattle.std.proofs.Common.{◌≡◌, ℕ, ◌⊎◌, List, refl, sym, ap, ◌∙◌, subst, inl, inr, Some, Result, Ok, Err}
+use Rattle.std.proofs.Common.{◌≡◌, ℕ, ◌⊎◌, List, [], ◌∷◌, refl, sym, ap, ◌∙◌, subst, inl, inr, Some, Result, Ok, Err}
 use Rattle.tab_auth.specs.SignedRequests.{IsSigned}
 use Rattle.tab_auth.specs.declared.signatures.Keys.{Keys}
 use Rattle.tab_http.specs.Heads.{HasNoHead}
@@ -13,7 +13,7 @@ use Rattle.tab_service.specs.Signing.{signed_of}
 use Rattle.tab_service.specs.declared.forms.Request.{Request}
 use Rattle.tab_service.specs.declared.decisions.Decided.{Decided}
 use Rattle.tab_service.specs.declared.decisions.Decided.TheVariants.{Go, No}
-use Rattle.tab_drive.specs.Messages.{whole, AreRead, AreSigned, ComeTo}
+use Rattle.tab_drive.specs.Messages.{inside, whole, AreRead, AreSigned, ComeTo}
 use Rattle.tab_drive.specs.Messages.ComeTo.{as_message, as_none}
 
 -- the law that bytes spell one answer, but where the parser decides between two refusals
@@ -97,17 +97,44 @@ SomeAnswer = (bytes : List ℕ) → ((answer : Answer) → Spells bytes answer �
 abbrev pub HaveSomeDecision : Type 0
 HaveSomeDecision = (keys : Keys) (now : ℕ) (message : Message) → ((decided : Decided) → IsDecision keys now message decided → ⊥) → ⊥
 
-some_reading : HaveSomeDecision → (keys : Keys) (moment : ℕ) (bytes : List ℕ)
-    → ((message : Message) (decided : Decided) → AreRead bytes (Ok message) → IsDecision keys moment message decided → ⊥)
-    → ((refused : HttpRefused) → AreRead bytes (Err refused) → ⊥) → (found : Result Message HttpRefused) → AreRead bytes found → ⊥
-some_reading messages keys moment bytes none refuses (Ok message) read = messages keys moment message (λ decided is. none message decided read is)
-some_reading messages keys moment bytes none refuses (Err refused) read = refuses refused read
+-- the laws that bytes spell no fault of a read, and no want of memory
+abbrev pub NoFault : HttpRefused → Type 0
+NoFault refused = (bytes : List ℕ) → Spells bytes (Err refused) → ⊥
 
-pub some_decision : SomeAnswer → HaveSomeDecision → (keys : Keys) (moment : ℕ) (bytes : List ℕ)
-    → ((message : Message) (decided : Decided) → AreRead bytes (Ok message) → IsDecision keys moment message decided → ⊥)
-    → ((refused : HttpRefused) → AreRead bytes (Err refused) → ⊥) → ⊥
-some_decision answers messages keys moment bytes none refuses =
-    answers bytes (λ answer spells. some_reading messages keys moment bytes none refuses (whole answer) (record { answer = answer; spells = spells; found_is = refl }))
+-- a refusal that bytes spell has a reply
+fault_reply : NoFault http.ReadFault → NoFault http.Memory → (bytes : List ℕ) (refused : HttpRefused) → Spells bytes (Err refused)
+    → (reply : List ℕ) × (http_fault (inside refused) ≡ Some reply)
+unfolding http_fault
+fault_reply fault memory bytes http.EndBetween spells = (_, refl)
+fault_reply fault memory bytes http.EndInside spells = (_, refl)
+fault_reply fault memory bytes http.Malformed spells = (_, refl)
+fault_reply fault memory bytes http.HeadTooLong spells = (_, refl)
+fault_reply fault memory bytes http.NoLength spells = (_, refl)
+fault_reply fault memory bytes http.BodyTooLong spells = (_, refl)
+fault_reply fault memory bytes http.ReadFault spells = absurd (fault bytes spells)
+fault_reply fault memory bytes http.Memory spells = absurd (memory bytes spells)
+
+inside_reply : (reply : List ℕ) × (http_fault http.EndInside ≡ Some reply)
+unfolding http_fault
+inside_reply = (_, refl)
+
+-- bytes that spell an answer come to something
+answer_comes : NoFault http.ReadFault → NoFault http.Memory → HaveSomeDecision → (keys : Keys) (moment : ℕ) (bytes : List ℕ)
+    → ((decided : Decided) → ComeTo keys moment bytes decided → ⊥) → (answer : Answer) → Spells bytes answer → ⊥
+answer_comes fault memory messages keys moment bytes none (Ok (message, [])) spells =
+    let read : AreRead bytes (Ok message) = record { answer = Ok (message, []); spells = spells; found_is = refl } in
+    messages keys moment message (λ decided is. none decided (as_message message read is))
+answer_comes fault memory messages keys moment bytes none (Ok (message, b ∷ behind)) spells =
+    let read : AreRead bytes (Err http.EndInside) = record { answer = Ok (message, b ∷ behind); spells = spells; found_is = refl } in
+    none (No inside_reply.0) (as_none http.EndInside inside_reply.0 read inside_reply.1 refl)
+answer_comes fault memory messages keys moment bytes none (Err refused) spells =
+    let read : AreRead bytes (Err (inside refused)) = record { answer = Err refused; spells = spells; found_is = refl } in
+    let reply = fault_reply fault memory bytes refused spells in
+    none (No reply.0) (as_none (inside refused) reply.0 read reply.1 refl)
+
+pub some_decision : SomeAnswer → NoFault http.ReadFault → NoFault http.Memory → HaveSomeDecision → (keys : Keys) (moment : ℕ) (bytes : List ℕ)
+    → ((decided : Decided) → ComeTo keys moment bytes decided → ⊥) → ⊥
+some_decision answers fault memory messages keys moment bytes none = answers bytes (answer_comes fault memory messages keys moment bytes none)
 
 -- ---- signed calls
 

@@ -66,8 +66,8 @@ text_of-push xs x = flat_map-append (λ (y : Exchange). y.text) xs (x ∷ []) �
 pub record Going (keys : Keys) (moment : ℕ) (left_before left taken_before taken : Option (List ℕ)) (session : Session) (done : ℕ) : Type 0 where
   pub exchanges : List Exchange
   pub follows : Follows keys (opened_state moment) exchanges
-  pub history : session.history.items ≡ opening ∷ entries_of exchanges
-  pub legal : Legal first_state session.history.items
+  pub history : session.history ≡ opening ∷ entries_of exchanges
+  pub legal : Legal first_state session.history
   pub keeps : Keeps session (state_after_all (opened_state moment) exchanges)
   pub read : Consumes left_before left (bytes_of exchanges)
   pub written : Appends taken_before taken (text_of exchanges)
@@ -75,16 +75,16 @@ pub record Going (keys : Keys) (moment : ℕ) (left_before left taken_before tak
   pub numbered : session.number ≡ done + 1
 
 -- the history with one more exchange
-history_push : (keys : Keys) (moment : ℕ) (xs : List Exchange) (x : Exchange) (old new : Session) → old.history.items ≡ opening ∷ entries_of xs
-    → Exchanged keys (state_after_all (opened_state moment) xs) x old new → new.history.items ≡ opening ∷ entries_of (xs ++ x ∷ [])
+history_push : (keys : Keys) (moment : ℕ) (xs : List Exchange) (x : Exchange) (old new : Session) → old.history ≡ opening ∷ entries_of xs
+    → Exchanged keys (state_after_all (opened_state moment) xs) x old new → new.history ≡ opening ∷ entries_of (xs ++ x ∷ [])
 history_push keys moment xs x old new before more =
     more.history ∙ ap (λ (h : List Entry). h ++ x.entries) before ∙ ap (λ (h : List Entry). opening ∷ h) (sym (entries_of-push xs x))
 
-legal_push : (keys : Keys) (moment : ℕ) (xs : List Exchange) (x : Exchange) (old new : Session) → old.history.items ≡ opening ∷ entries_of xs → Legal first_state old.history.items
-    → Exchanged keys (state_after_all (opened_state moment) xs) x old new → Legal first_state new.history.items
+legal_push : (keys : Keys) (moment : ℕ) (xs : List Exchange) (x : Exchange) (old new : Session) → old.history ≡ opening ∷ entries_of xs → Legal first_state old.history
+    → Exchanged keys (state_after_all (opened_state moment) xs) x old new → Legal first_state new.history
 legal_push keys moment xs x old new before legal more =
     subst (λ (h : List Entry). Legal first_state h) (sym more.history)
-    (Legal-more first_state old.history.items x.entries legal
+    (Legal-more first_state old.history x.entries legal
     (subst (λ (s : State). EachAllowed s x.entries) (past_is moment xs ∙ ap (λ (h : List Entry). after_all first_state h) (sym before)) more.allowed))
 
 follows_push : (keys : Keys) (moment : ℕ) (xs : List Exchange) (x : Exchange) (old new : Session) → Follows keys (opened_state moment) xs
@@ -118,7 +118,7 @@ written_still t0 t1 t2 text same written = subst (λ (t : Option (List ℕ)). Ap
 
 left_off : (P : List ℕ → Type 0) (keys : Keys) (moment : ℕ) (l0 l1 l2 t0 t1 t2 : Option (List ℕ)) (old new : Session) (done : ℕ) → Going keys moment l0 l1 t0 t1 old done
     → NoneServed P (record { left_before = l1; left = l2; taken_before = t1; taken = t2 }) old new
-    → LeftOff P keys moment (record { left_before = l0; left = l2; taken_before = t0; taken = t2 }) new.history.items done
+    → LeftOff P keys moment (record { left_before = l0; left = l2; taken_before = t0; taken = t2 }) new.history done
 left_off P keys moment l0 l1 l2 t0 t1 t2 old new done going idle = record {
   exchanges = going.exchanges;
   ran = record { follows = going.follows; acted = idle.history ∙ going.history };
@@ -132,7 +132,7 @@ left_off P keys moment l0 l1 l2 t0 t1 t2 old new done going idle = record {
 -- a run that stops
 pub stopped : (keys : Keys) (moment : ℕ) (l0 l1 l2 t0 t1 t2 : Option (List ℕ)) (old new : Session) (done : ℕ) (stop : RunStop) → (going : Going keys moment l0 l1 t0 t1 old done)
     → StopsServing keys (state_after_all (opened_state moment) going.exchanges) (record { left_before = l1; left = l2; taken_before = t1; taken = t2 }) old new stop
-    → Stops keys moment (record { left_before = l0; left = l2; taken_before = t0; taken = t2 }) new.history.items done stop
+    → Stops keys moment (record { left_before = l0; left = l2; taken_before = t0; taken = t2 }) new.history done stop
 stopped keys moment l0 l1 l2 t0 t1 t2 old new done End going halts = record {
   exchanges = going.exchanges;
   ran = record { follows = going.follows; acted = halts.history ∙ going.history };
@@ -168,13 +168,13 @@ stopped keys moment l0 l1 l2 t0 t1 t2 old new done WriteFault going halts =
     }
 stopped keys moment l0 l1 l2 t0 t1 t2 old new done Memory going halts = left_off _ keys moment l0 l1 l2 t0 t1 t2 old new done going halts
 
-legal_still : (old new : Session) → new.history.items ≡ old.history.items → Legal first_state old.history.items → Legal first_state new.history.items
+legal_still : (old new : Session) → new.history ≡ old.history → Legal first_state old.history → Legal first_state new.history
 legal_still old new same legal = subst (λ (h : List Entry). Legal first_state h) (sym same) legal
 
 -- its history is legal
 pub stopped_legal : (keys : Keys) (moment : ℕ) (l0 l1 l2 t0 t1 t2 : Option (List ℕ)) (old new : Session) (done : ℕ) (stop : RunStop) → (going : Going keys moment l0 l1 t0 t1 old done)
     → StopsServing keys (state_after_all (opened_state moment) going.exchanges) (record { left_before = l1; left = l2; taken_before = t1; taken = t2 }) old new stop
-    → Legal first_state new.history.items
+    → Legal first_state new.history
 stopped_legal keys moment l0 l1 l2 t0 t1 t2 old new done End going halts = legal_still old new halts.history going.legal
 stopped_legal keys moment l0 l1 l2 t0 t1 t2 old new done Refused going halts = legal_still old new halts.1.history going.legal
 stopped_legal keys moment l0 l1 l2 t0 t1 t2 old new done ReadFault going halts = legal_still old new halts.history going.legal
@@ -182,7 +182,7 @@ stopped_legal keys moment l0 l1 l2 t0 t1 t2 old new done WriteFault going halts 
 stopped_legal keys moment l0 l1 l2 t0 t1 t2 old new done Memory going halts = legal_still old new halts.history going.legal
 
 -- a run begins
-pub going_first : (keys : Keys) (moment : ℕ) (l t : Option (List ℕ)) (session : Session) → Keeps session (opened_state moment) → session.history.items ≡ opening ∷ [] → Going keys moment l l t t session 0
+pub going_first : (keys : Keys) (moment : ℕ) (l t : Option (List ℕ)) (session : Session) → Keeps session (opened_state moment) → session.history ≡ opening ∷ [] → Going keys moment l l t t session 0
 unfolding opened_state
 going_first keys moment l t session keeps history = record {
   exchanges = [];

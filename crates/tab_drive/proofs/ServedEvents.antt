@@ -38,7 +38,7 @@ refused_number state before left event fits spent read =
     told_front before left (spelling event) (IsRefused state) read (λ rest. inr (spent, λ more is. event_not_end event rest more fits is))
 
 -- a part was taken that holds no event
-pub cut_short : (traffic : Traffic) (old new : Session) → TookPart traffic.left_before traffic.left → traffic.taken ≡ traffic.taken_before → new.history.items ≡ old.history.items
+pub cut_short : (traffic : Traffic) (old new : Session) → TookPart traffic.left_before traffic.left → traffic.taken ≡ traffic.taken_before → new.history ≡ old.history
     → NoneServed IsOneAtMost traffic old new
 cut_short traffic old new took written history =
     record { part = took.part; are = inr (took.no_event, took.within); read = took.consumed; written = written; history = history }

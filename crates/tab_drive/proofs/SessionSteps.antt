@@ -184,14 +184,14 @@ replied_steps keys message state old new request text keeps comes replied =
         held = replied.held ∙ ap (λ (h : Held). held_then h replied.decided.effect) keeps.held ∙ sym (holding_after state (Call message) request.ask replied.decided entries added);
         serving = serving_after state (Call message) request.ask replied.decided entries added;
       };
-      history = replied.history ∙ ap (λ (n : ℕ). old.history.items ++ entries_for n old.moment (held_by old.store) request.ask replied.decided.reply) keeps.number
-          ∙ ap (λ (m : ℕ). old.history.items ++ entries_for state.number m (held_by old.store) request.ask replied.decided.reply) keeps.moment
-          ∙ ap (λ (h : Held). old.history.items ++ entries_for state.number state.moment h request.ask replied.decided.reply) keeps.held;
+      history = replied.history ∙ ap (λ (n : ℕ). old.history ++ entries_for n old.moment (held_by old.store) request.ask replied.decided.reply) keeps.number
+          ∙ ap (λ (m : ℕ). old.history ++ entries_for state.number m (held_by old.store) request.ask replied.decided.reply) keeps.moment
+          ∙ ap (λ (h : Held). old.history ++ entries_for state.number state.moment h request.ask replied.decided.reply) keeps.held;
     }
 
 -- an event that sets the moment is a step of the run
 pub moved_steps : (keys : Keys) (state : RunState) (old new : Session) (moment : ℕ) → Keeps old state
-    → new.moment ≡ moment → new.number ≡ old.number + 1 → held_by new.store ≡ held_by old.store → new.history.items ≡ old.history.items
+    → new.moment ≡ moment → new.number ≡ old.number + 1 → held_by new.store ≡ held_by old.store → new.history ≡ old.history
     → Stepped keys state (Now moment) done_outcome old new
 unfolding state_after
 moved_steps keys state old new moment keeps at number held history = record {
@@ -204,7 +204,7 @@ moved_steps keys state old new moment keeps at number held history = record {
     held = held ∙ keeps.held;
     serving = record { floors = keeps.serving.floors; bounds = keeps.serving.bounds; settled = keeps.serving.settled };
   };
-  history = history ∙ sym (append-nil old.history.items);
+  history = history ∙ sym (append-nil old.history);
 }
 
 -- a refused message is a step of the run
@@ -221,22 +221,21 @@ refused_steps keys message reply text state old new keeps comes written refused 
     held = refused.held ∙ keeps.held;
     serving = record { floors = keeps.serving.floors; bounds = keeps.serving.bounds; settled = keeps.serving.settled };
   };
-  history = refused.history ∙ sym (append-nil old.history.items);
+  history = refused.history ∙ sym (append-nil old.history);
 }
 
 -- a request that is recorded over a store that holds what it held
-pub replied_from : (old new : Session) (store : Store) (items : List Entry) (look : Option LookUp) (request : Request) (text : List ℕ) (decided : StoreAnswer)
-    → items ≡ old.history.items → held_by store ≡ held_by old.store → look ≡ look_up old.store.tables.names request.ask
+pub replied_from : (old new : Session) (store : Store) (look : Option LookUp) (request : Request) (text : List ℕ) (decided : StoreAnswer)
+    → held_by store ≡ held_by old.store → look ≡ look_up old.store.tables.names request.ask
     → IsDecided (held_by old.store) old.moment request.ask decided → text ≡ reply_outcome (reply_text request decided.reply)
-    → new.history.items ≡ items ++ entries_by look old.number old.moment store.next_table request.ask decided.reply
+    → new.history ≡ old.history ++ entries_by look old.number old.moment store.next_table request.ask decided.reply
     → held_by new.store ≡ held_then (held_by store) decided.effect → new.number ≡ old.number + 1 → new.moment ≡ old.moment → Replied old new request text
-replied_from old new store items look request text decided same held looked comes written history held_is number moment = record {
+replied_from old new store look request text decided held looked comes written history held_is number moment = record {
   decided = decided;
   comes = comes;
   written = written;
-  history = history ∙ ap (λ (h : List Entry). h ++ entries_by look old.number old.moment store.next_table request.ask decided.reply) same
-      ∙ ap (λ (n : ℕ). old.history.items ++ entries_by look old.number old.moment n request.ask decided.reply) (ap (λ (h : Held). h.next_table) held)
-      ∙ ap (λ (l : Option LookUp). old.history.items ++ entries_by l old.number old.moment old.store.next_table request.ask decided.reply) looked;
+  history = history ∙ ap (λ (n : ℕ). old.history ++ entries_by look old.number old.moment n request.ask decided.reply) (ap (λ (h : Held). h.next_table) held)
+      ∙ ap (λ (l : Option LookUp). old.history ++ entries_by l old.number old.moment old.store.next_table request.ask decided.reply) looked;
   held = held_is ∙ ap (λ (h : Held). held_then h decided.effect) held;
   number = number;
   moment = moment;

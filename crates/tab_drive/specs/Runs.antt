@@ -35,7 +35,7 @@ pub record Exchanged (keys : Keys) (state : RunState) (exchange : Exchange) (old
   pub happens : Happens keys state exchange.event exchange.entries exchange.text
   pub allowed : EachAllowed state.past exchange.entries
   pub keeps : Keeps new (state_after state exchange.event exchange.entries)
-  pub history : new.history.items ≡ old.history.items ++ exchange.entries
+  pub history : new.history ≡ old.history ++ exchange.entries
 
 -- an event was read, taken and answered, and its text was written whole
 pub record EventServed (keys : Keys) (state : RunState) (traffic : Traffic) (old new : Session) : Type 0 where
@@ -57,7 +57,7 @@ pub record NoneServed (P : List ℕ → Type 0) (traffic : Traffic) (old new : S
   pub are : P part
   pub read : Consumes traffic.left_before traffic.left part
   pub written : traffic.taken ≡ traffic.taken_before
-  pub history : new.history.items ≡ old.history.items
+  pub history : new.history ≡ old.history
 
 -- less than a whole event was taken, and no more than one line or one message with what calls it
 abbrev pub IsCutShort : List ℕ → Type 0

@@ -116,28 +116,28 @@ pub record Stepped (keys : Keys) (state : RunState) (event : Scheduled) (text : 
   pub happens : Happens keys state event entries text
   pub allowed : EachAllowed state.past entries
   pub keeps : Keeps new (state_after state event entries)
-  pub history : new.history.items ≡ old.history.items ++ entries
+  pub history : new.history ≡ old.history ++ entries
 
 -- a request was answered with this text, and the history has its entries
 pub record Replied (old new : Session) (request : Request) (text : List ℕ) : Type 0 where
   pub decided : StoreAnswer
   pub comes : IsDecided (held_by old.store) old.moment request.ask decided
   pub written : text ≡ reply_outcome (reply_text request decided.reply)
-  pub history : new.history.items ≡ old.history.items ++ entries_for old.number old.moment (held_by old.store) request.ask decided.reply
+  pub history : new.history ≡ old.history ++ entries_for old.number old.moment (held_by old.store) request.ask decided.reply
   pub held : held_by new.store ≡ held_then (held_by old.store) decided.effect
   pub number : new.number ≡ old.number + 1
   pub moment : new.moment ≡ old.moment
 
--- nothing changed but the room for more
+-- nothing changed but the room for more rows
 pub record Unchanged (old new : Session) : Type 0 where
-  pub history : new.history.items ≡ old.history.items
+  pub history : new.history ≡ old.history
   pub held : held_by new.store ≡ held_by old.store
   pub number : new.number ≡ old.number
   pub moment : new.moment ≡ old.moment
 
 -- a message was refused, and nothing changed but the number of the next event
 pub record RefusedAt (old new : Session) : Type 0 where
-  pub history : new.history.items ≡ old.history.items
+  pub history : new.history ≡ old.history
   pub held : held_by new.store ≡ held_by old.store
   pub number : new.number ≡ old.number + 1
   pub moment : new.moment ≡ old.moment

@@ -1,17 +1,14 @@
 //! Laws over definitions, each on a function with an empty body.
-ghost use Rattle.std.specs.Prelude.{◌≡◌, ℕ, List, ◌++◌, length, Some, Ok, Err};
+ghost use Rattle.std.specs.Prelude.{◌≡◌, ℕ, List, ◌++◌, length, Some};
 ghost use Rattle.tab_auth.specs.declared.signatures.Keys.{Keys};
 ghost use Rattle.tab_history.specs.declared.entries.Entry.{Entry};
-ghost use Rattle.tab_http.specs.declared.messages.Message.{Message};
-ghost use Rattle.tab_http.specs.declared.refusals.HttpRefused.{HttpRefused};
-ghost use Rattle.tab_service.specs.Decisions.{IsDecision};
 ghost use Rattle.tab_service.specs.declared.decisions.Decided.{Decided};
 ghost use Rattle.tab_service.specs.declared.decisions.Decided.TheVariants as Decided;
 ghost use Rattle.tab_service.specs.declared.forms.Request.{Request};
-ghost use Rattle.tab_drive.specs.Messages.{AreRead, AreSigned, ComeTo};
+ghost use Rattle.tab_drive.specs.Messages.{AreSigned, ComeTo};
 ghost use Rattle.tab_drive.specs.RunStates.{RunState, Exchange, Follows, bytes_of, entries_of, text_of};
 
-use tab_http::{bytes_spell_one_answer, bytes_spell_some_answer};
+use tab_http::{bytes_spell_no_fault, bytes_spell_one_answer, bytes_spell_some_answer};
 use tab_service::{messages_have_one_decision, messages_have_some_decision, requests_are_signed};
 
 /// The bytes of a message come to one request, or to the reply to one refusal.
@@ -22,13 +19,13 @@ pub fn one_decision()
     messages_have_one_decision();
 }
 
-/// There are no bytes of a call that come to nothing: they are a message, which has a decision, or are refused as none.
+/// There are no bytes of a call that come to nothing: they are a message, which has a decision, or are refused as none, and
+/// each such refusal has a reply.
 pub fn calls_come_to_something()
-    ensures { (keys : Keys) (moment : ℕ) (bytes : List ℕ)
-        → ((message : Message) (decided : Decided) → AreRead bytes (Ok message) → IsDecision keys moment message decided → ⊥)
-        → ((refused : HttpRefused) → AreRead bytes (Err refused) → ⊥) → ⊥ }
+    ensures { (keys : Keys) (moment : ℕ) (bytes : List ℕ) → ((decided : Decided) → ComeTo keys moment bytes decided → ⊥) → ⊥ }
 {
     bytes_spell_some_answer();
+    bytes_spell_no_fault();
     messages_have_some_decision();
 }
 

@@ -13,6 +13,9 @@ use tab_outside::{Failed, FillRefused, Source, fill, read_byte};
 /// The longest line that a schedule may have, in bytes without its line feed.
 pub const LONGEST_LINE: usize = 16_384;
 
+// How many bytes a line is given room for before it is read: as many as the line of a call has, and more.
+const USUAL_LINE: usize = 32;
+
 /// What stands next in a schedule.
 #[derive(Debug, Drop)]
 pub enum NextEvent {
@@ -92,7 +95,9 @@ fn read_line<S: Source>(alloc: Global, source: &mut S) -> Result<Vec<u8>, Unread
     ensures cause { HasCauseFor (S.faults source.old) (S.faults source.new) result Unread.Fault }
     ensures beside { S.beside source.new ≡ S.beside source.old }
 {
-    let mut line = Vec::new(alloc);
+    let Ok(mut line) = Vec::with_capacity(alloc, USUAL_LINE) else {
+        return Err(Unread::Memory);
+    };
     loop {
         let Some(byte) = read_byte(source)? else {
             return Err(Unread::NoEvent);

@@ -119,7 +119,7 @@ fn drive<S: Source, K: Sink>(
             write_last_line(output, served.stop, served.done);
             Ended {
                 status: status_of(served.stop),
-                history: History::new(served.history),
+                history: served.history,
                 done: served.done,
             }
         }
@@ -138,7 +138,7 @@ fn said_only<K: Sink>(alloc: Global, status: u8, line: &[u8], output: &mut K) ->
     write_line(output, &[line]);
     Ended {
         status,
-        history: History::new(Vec::new(alloc)),
+        history: History::new(alloc),
         done: 0,
     }
 }

@@ -11,7 +11,7 @@ use crate::reading::{NextEvent, Unread, next_event};
 use crate::session::Session;
 use std::alloc::Global;
 use tab_auth::Keys;
-use tab_history::Entry;
+use tab_history::History;
 use tab_keys::Memory;
 use tab_outside::{Sink, Source};
 
@@ -30,13 +30,14 @@ pub enum RunStop {
     Memory,
 }
 
-/// Reads the next event, takes it, and writes what it gives.
+/// Reads the next event, takes it, and writes what it gives, by way of the buffer.
 pub fn serve_event<S: Source, K: Sink>(
     alloc: Global,
     keys: &Keys,
     session: &mut Session,
     input: &mut S,
     output: &mut K,
+    buffer: &mut Vec<u8>,
 ) -> Option<RunStop>
     ensures served { (state : RunState) → Keeps session.old state → IfNone result (EventServed keys.now state
         (traffic (S.left input.old) (S.left input.new) (K.taken output.old) (K.taken output.new)) session.old session.new) }
@@ -63,7 +64,7 @@ pub fn serve_event<S: Source, K: Sink>(
         Ok(outgoing) => outgoing,
         Err(_) => return Some(RunStop::Memory),
     };
-    match write_outgoing(output, &outgoing) {
+    match write_outgoing(output, buffer, &outgoing) {
         Ok(()) => None,
         Err(_) => Some(RunStop::WriteFault),
     }
@@ -77,7 +78,7 @@ pub struct Served {
     /// How many events were answered whole.
     pub done: u64,
     /// The entries of all events that were taken, the opening's first.
-    pub history: Vec<Entry>,
+    pub history: History,
 }
 
 /// Opens a store and reads a schedule to its end, or up to what stops it.
@@ -89,8 +90,8 @@ pub fn serve<S: Source, K: Sink>(
     output: &mut K,
 ) -> Result<Served, Memory>
     ensures stops { IfOk result (λ served. Stops keys.now moment
-        (traffic (S.left input.old) (S.left input.new) (K.taken output.old) (K.taken output.new)) served.history.items served.done served.stop) }
-    ensures legal { IfOk result (λ served. Legal first_state served.history.items) }
+        (traffic (S.left input.old) (S.left input.new) (K.taken output.old) (K.taken output.new)) served.history served.done served.stop) }
+    ensures legal { IfOk result (λ served. Legal first_state served.history) }
     ensures read_fault { IfOk result (λ served. served.stop ≡ RunStop.ReadFault → Rose (S.faults input.old) (S.faults input.new)) }
     ensures write_fault { IfOk result (λ served. served.stop ≡ RunStop.WriteFault → Rose (K.faults output.old) (K.faults output.new)) }
     ensures numbered { IfOk result (λ served. served.done < 2 ^ 64 - 1) }
@@ -100,9 +101,10 @@ pub fn serve<S: Source, K: Sink>(
     ensures write_later { K.faults output.old ≤ K.faults output.new }
 {
     let mut session = Session::open(alloc, moment)?;
+    let mut buffer = Vec::new(alloc);
     let mut done = 0;
     loop {
-        if let Some(stop) = serve_event(alloc, keys, &mut session, input, output) {
+        if let Some(stop) = serve_event(alloc, keys, &mut session, input, output, &mut buffer) {
             return Ok(Served {
                 stop,
                 done,

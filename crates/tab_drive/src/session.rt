@@ -1,5 +1,5 @@
 //! A store on its way through a schedule: what one event does to it, to the history, and gives to be written.
-ghost use Rattle.std.specs.Prelude.{◌≡◌, ◌≢◌, ◌+◌, ◌-◌, ◌^◌, ◌<◌, ◌≤◌, [], ◌∷◌, ◌++◌, IfOk, IfSome, OnOk, OnErr, vec_len, vec_capacity};
+ghost use Rattle.std.specs.Prelude.{◌≡◌, ◌≢◌, ◌+◌, ◌-◌, ◌^◌, ◌<◌, [], ◌∷◌, ◌++◌, IfOk, OnOk, OnErr};
 ghost use Rattle.tab_service.specs.Replies.{reply_text};
 ghost use Rattle.tab_service.specs.Forms.{IsInForm};
 ghost use Rattle.tab_drive.specs.RunStates.{RunState, opened_state, opening, name_of, reply_outcome};
@@ -16,7 +16,7 @@ use crate::schedule::{RawMessage, Scheduled};
 use crate::stores::{Store, StoreAnswer};
 use std::alloc::Global;
 use tab_auth::Keys;
-use tab_history::{Ask, Bounds, Denied, Entry, Reply};
+use tab_history::{Ask, Bounds, Denied, Entry, History, Reply};
 use tab_keys::Memory;
 use tab_service::{Decided, ReplyBytes, Request, decide, http_fault, memory_reply, reply_bytes};
 
@@ -30,19 +30,19 @@ pub struct Session {
     /// What is kept.
     pub store: Store,
     /// The entries so far, the opening's first.
-    pub history: Vec<Entry>,
+    pub history: History,
 }
 
 impl Session {
     /// Opens a store without tables. Its history begins with the bounds of its one range.
     pub fn open(alloc: Global, moment: u64) -> Result<Session, Memory>
         ensures keeps { IfOk result (λ session. Keeps session (opened_state moment)) }
-        ensures history { IfOk result (λ session. session.history.items ≡ opening ∷ []) }
+        ensures history { IfOk result (λ session. session.history ≡ opening ∷ []) }
     {
         let mut bounds = Vec::new(alloc);
         push(&mut bounds, AllKeys::first_bound(alloc)?)?;
-        let mut history = Vec::new(alloc);
-        push(&mut history, Entry::Bounds(Bounds::new(bounds)))?;
+        let mut history = History::new(alloc);
+        history.push(alloc, Entry::Bounds(Bounds::new(bounds)))?;
         Ok(Session {
             moment,
             number: 1,
@@ -103,54 +103,64 @@ impl Session {
         ensures ok { IfOk result (λ outgoing. Replied self.old self.new request (outgoing_text outgoing)) }
         ensures err { OnErr result (Unchanged self.old self.new) }
     {
-        if self.history.reserve(2).is_err() {
-            return Err(Memory);
-        }
         let look = look_up(alloc, &self.store.tables, &request.ask)?;
         let table = table_of(&look);
         let (decided, outgoing) = prepare(alloc, &mut self.store, &request, table, self.moment)?;
-        self.record(look, request.ask, decided);
+        self.record(alloc, look, request.ask, decided)?;
         Ok(outgoing)
     }
 
-    /// Adds the entries of a decided request to the history, and does what it does to the store.
-    fn record(&mut self, look: Option<LookUp>, ask: Ask, decided: StoreAnswer)
-        requires room { vec_len self.old.history + 2 ≤ vec_capacity self.old.history }
+    /// Adds the entries of a decided request to the history, and does what it does to the store. Where no memory is found
+    /// for the entries, all is as before.
+    fn record(
+        &mut self,
+        alloc: Global,
+        look: Option<LookUp>,
+        ask: Ask,
+        decided: StoreAnswer,
+    ) -> Result<(), Memory>
         requires number { self.old.number < 2 ^ 64 - 1 }
         requires effect { HasRoom self.old.store decided.effect }
-        ensures history { self.new.history.items ≡ self.old.history.items ++ entries_by look self.old.number self.old.moment self.old.store.next_table ask decided.reply }
-        ensures held { held_by self.new.store ≡ held_then (held_by self.old.store) decided.effect }
-        ensures number { self.new.number ≡ self.old.number + 1 }
+        ensures history { OnOk result (self.new.history ≡ self.old.history ++ entries_by look self.old.number self.old.moment self.old.store.next_table ask decided.reply) }
+        ensures held { OnOk result (held_by self.new.store ≡ held_then (held_by self.old.store) decided.effect) }
+        ensures number { OnOk result (self.new.number ≡ self.old.number + 1) }
         ensures moment { self.new.moment ≡ self.old.moment }
+        ensures err { OnErr result (Unchanged self.old self.new) }
     {
         let StoreAnswer { reply, effect } = decided;
-        self.enter(look, ask, reply);
+        self.enter(alloc, look, ask, reply)?;
         self.number += 1;
         self.store.apply(effect);
+        Ok(())
     }
 
-    /// Adds the entries of a request that was replied to so.
-    fn enter(&mut self, look: Option<LookUp>, ask: Ask, reply: Reply)
-        requires { vec_len self.old.history + 2 ≤ vec_capacity self.old.history }
-        ensures history { self.new.history.items ≡ self.old.history.items ++ entries_by look self.old.number self.old.moment self.old.store.next_table ask reply }
+    /// Adds the entries of a request that was replied to so, or none.
+    fn enter(
+        &mut self,
+        alloc: Global,
+        look: Option<LookUp>,
+        ask: Ask,
+        reply: Reply,
+    ) -> Result<(), Memory>
+        ensures history { OnOk result (self.new.history ≡ self.old.history ++ entries_by look self.old.number self.old.moment self.old.store.next_table ask reply) }
+        ensures err { OnErr result (self.new.history ≡ self.old.history) }
         ensures same { self.new ≡ record self.old { history = self.new.history } }
     {
         let number = self.number;
-        let next_table = self.store.next_table;
-        match look {
-            None => self
-                .history
-                .push_reserved(table_entry(number, next_table, ask, reply)),
-            Some(look) => {
-                self.history.push_reserved(Entry::Resolve {
-                    ask: number,
-                    name: look.name,
-                    table: look.table,
-                });
-                if let Some(table) = look.table {
-                    self.history
-                        .push_reserved(row_entry(number, self.moment, table, ask, reply));
-                }
+        let Some(LookUp { name, table }) = look else {
+            let answer = table_entry(number, self.store.next_table, ask, reply);
+            return self.history.push(alloc, answer);
+        };
+        let looked_up = Entry::Resolve {
+            ask: number,
+            name,
+            table,
+        };
+        match table {
+            None => self.history.push(alloc, looked_up),
+            Some(table) => {
+                let answer = row_entry(number, self.moment, table, ask, reply);
+                self.history.push_both(alloc, looked_up, answer)
             }
         }
     }

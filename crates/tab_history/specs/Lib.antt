@@ -10,3 +10,4 @@ pub mod DoubtsExample
 pub mod Configurations
 pub mod SplitExample
 pub mod Kept
+pub mod Histories

@@ -1,8 +1,7 @@
 //! The entries of a history: what the store did, one step after another.
-ghost use Rattle.std.specs.Prelude.{◌≡◌, [], ◌∷◌, ◌++◌, OnOk, OnErr};
+ghost use Rattle.std.specs.Prelude.{◌≡◌};
 
 use crate::{MapRefused, TableNames, Turn};
-use std::alloc::Global;
 use std::marker::Model;
 use tab_keys::{Bound, KeyText, TableName};
 use tab_ops::{Group, OpRefused};
@@ -146,25 +145,6 @@ pub enum Doubt {
     Drop { name: TableName },
 }
 
-/// The entries of a run, in their order.
-#[derive(Debug, Drop)]
-pub struct History {
-    entries: Vec<Entry>,
-}
-
-impl Model for History {
-    ghost use Rattle.std.specs.Prelude.{List, vec_items};
-    ghost use Rattle.std.specs.Coded.{coded_list};
-    ghost use Rattle.tab_history.specs.declared.entries.Entry.{Entry};
-    ghost use Rattle.tab_history.specs.contracts.entries.Entry as entry;
-
-    ghost Value = { List Entry };
-
-    ghost coded = { coded_list entry.the_row.coded };
-
-    ghost view = { λ history. history.entries.items };
-}
-
 impl Bounds {
     /// The bounds, in the order in which they stand.
     pub fn new(bounds: Vec<Bound>) -> Bounds
@@ -178,21 +158,5 @@ impl Bounds {
         ensures { result.now ≡ self.now }
     {
         self.bounds.as_slice()
-    }
-}
-
-impl History {
-    /// The entries, in the memory that they have.
-    pub fn new(entries: Vec<Entry>) -> History
-        ensures { result ≡ entries.items }
-    {
-        History { entries }
-    }
-
-    /// The entries, lent.
-    pub fn as_slice(&self) -> &[Entry]
-        ensures { result.now ≡ self.now }
-    {
-        self.entries.as_slice()
     }
 }

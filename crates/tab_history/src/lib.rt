@@ -4,12 +4,14 @@
 
 mod asks;
 mod entries;
+mod histories;
 mod laws;
 mod plans;
 mod table_names;
 
 pub use asks::{Ask, Reply};
-pub use entries::{Bounds, Denied, Doubt, Entry, History};
+pub use entries::{Bounds, Denied, Doubt, Entry};
+pub use histories::History;
 pub use laws::{
     a_followed_query, a_range_that_is_split, doubts_stay_open, doubts_that_end_and_stay,
     drops_hide, followed_queries, made_tables_are_new, still_queries, table_numbers_rise,

@@ -6,7 +6,7 @@ use Rattle.std.proofs.lemmas.List.{take-append-le, drop-append-le}
 use Rattle.httparse.proofs.GrammarLemmas.{ReadsRequest-append, request_unique}
 use Rattle.httparse.specs.Grammar.{RequestHead}
 use Rattle.tab_http.specs.Headers.{decimal_value, have_length, some_length, length_from, announced, needs_length, size_for, size_unless_coded, body_size}
-use Rattle.tab_http.specs.Heads.{BeginsWithHead, HasNoHead}
+use Rattle.tab_http.specs.Heads.{BeginsWithHead, HasNoHead, headers_of}
 use Rattle.tab_http.specs.Messages.{Answer, message_of, size_of_body, with_body, answer_of, RefusesHeadless, Spells, behind_head, without_head, IsParsers, IsOpen, in_head, in_body}
 use Rattle.tab_http.specs.declared.messages.Header.{Header}
 use Rattle.tab_http.specs.declared.messages.Message.{Message}
@@ -144,6 +144,51 @@ bytes_spell_some_answer bytes none = refuse (cases_lt (length bytes) LONGEST_HEA
         few_bytes : (0 < length bytes) ⊎ (length bytes ≤ 0) → ⊥
         few_bytes (inl some) = none (Err EndInside) (without_head EndInside no_head (some, few) refl)
         few_bytes (inr nothing) = none (Err EndBetween) (without_head EndBetween no_head (omega arith) refl)
+
+-- ---- no fault
+
+-- a refusal for what the bytes are
+abbrev IsOfBytes : HttpRefused → Type 0
+IsOfBytes ReadFault = ⊥
+IsOfBytes Memory = ⊥
+IsOfBytes _ = ⊤
+
+abbrev SaysOfBytes : Answer → Type 0
+SaysOfBytes (Ok found) = ⊤
+SaysOfBytes (Err refused) = IsOfBytes refused
+
+size_of_bytes : (refused : HttpRefused) → IsSizeRefusal refused → IsOfBytes refused
+size_of_bytes EndBetween is = tt
+size_of_bytes EndInside is = tt
+size_of_bytes Malformed is = tt
+size_of_bytes HeadTooLong is = tt
+size_of_bytes NoLength is = tt
+size_of_bytes BodyTooLong is = tt
+size_of_bytes ReadFault is = is
+size_of_bytes Memory is = is
+
+headless_of_bytes : (size : ℕ) (refused : HttpRefused) → RefusesHeadless size refused → IsOfBytes refused
+headless_of_bytes size EndBetween is = tt
+headless_of_bytes size EndInside is = tt
+headless_of_bytes size Malformed is = tt
+headless_of_bytes size HeadTooLong is = tt
+headless_of_bytes size NoLength is = tt
+headless_of_bytes size BodyTooLong is = tt
+headless_of_bytes size ReadFault is = is
+headless_of_bytes size Memory is = is
+
+either_of_bytes : (b : Bool) (x y : Answer) → SaysOfBytes x → SaysOfBytes y → SaysOfBytes (cond b x y)
+either_of_bytes true x y p q = p
+either_of_bytes false x y p q = q
+
+body_of_bytes : (h : RequestHead) (behind : List ℕ) (size : Result ℕ HttpRefused) → Refusal size → SaysOfBytes (with_body h behind size)
+body_of_bytes h behind (Err refused) is = size_of_bytes refused is
+body_of_bytes h behind (Ok size) is = either_of_bytes (nat_le size (length behind)) (Ok (message_of h (take size behind), drop size behind)) (Err EndInside) tt tt
+
+-- bytes spell no refusal but for what they are
+pub spelled_of_bytes : (bytes : List ℕ) (answer : Answer) → Spells bytes answer → SaysOfBytes answer
+spelled_of_bytes bytes answer (behind_head h behind begins is) = subst SaysOfBytes (sym is) (body_of_bytes h behind (size_of_body h) (body_refusal h.method (headers_of h)))
+spelled_of_bytes bytes answer (without_head refused none cause is) = subst SaysOfBytes (sym is) (headless_of_bytes (length bytes) refused cause)
 
 -- ---- open bytes
 

@@ -39,7 +39,9 @@ fn cut_front(bytes: &mut Vec<u8>, count: usize)
     requires { count ≤ vec_len bytes.old }
     ensures { bytes.new.items ≡ drop count bytes.old.items }
 {
-    bytes.drain(..count);
+    let kept = bytes.len() - count;
+    bytes.copy_within(count.., 0);
+    bytes.truncate(kept);
 }
 
 impl From<FillRefused> for HttpRefused {

@@ -13,7 +13,6 @@ use crate::{LONGEST_HEAD, MOST_HEADERS};
 use httparse::Status;
 use httparse::spans::{EMPTY_HEADER_SPAN, HeaderSpan, parse_request};
 use std::alloc::Global;
-use std::str;
 use tab_outside::Memory;
 
 /// The head of a request.
@@ -94,7 +93,7 @@ fn headers_of(alloc: Global, bytes: &[u8], spans: &[HeaderSpan]) -> Result<Heade
     requires names { All (λ span. IsUtf8 (span_bytes bytes.now span.name)) spans.now }
     ensures { IfOk result (λ headers. headers ≡ map (header_at bytes.now) spans.now) }
 {
-    let mut headers = Vec::new(alloc);
+    let mut headers = Vec::with_capacity(alloc, spans.len())?;
     for span in spans {
         let name = text_of(alloc, span.name.of(bytes))?;
         let value = bytes_of(alloc, span.value.of(bytes))?;
@@ -103,12 +102,13 @@ fn headers_of(alloc: Global, bytes: &[u8], spans: &[HeaderSpan]) -> Result<Heade
     Ok(Headers::new(headers))
 }
 
+/// A copy of bytes that are text. They are not looked at again.
 fn text_of(alloc: Global, bytes: &[u8]) -> Result<Text, Memory>
     requires { IsUtf8 bytes.now }
     ensures { IfOk result (λ text. text ≡ bytes.now) }
 {
-    let text = str::from_utf8(bytes).unwrap();
-    Ok(Text::new(String::from_str(alloc, text)?))
+    let copy = Vec::from_slice(alloc, bytes)?;
+    Ok(Text::new(unsafe { String::from_utf8_unchecked(copy) }))
 }
 
 fn bytes_of(alloc: Global, bytes: &[u8]) -> Result<Bytes, Memory>

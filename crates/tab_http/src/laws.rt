@@ -1,9 +1,10 @@
 //! What follows from the definitions of a message alone.
-ghost use Rattle.std.specs.Prelude.{◌≡◌, ℕ, ◌-◌, ◌≤◌, ◌⊎◌, max, List, ◌++◌, length, Option, Ok};
+ghost use Rattle.std.specs.Prelude.{◌≡◌, ℕ, ◌-◌, ◌≤◌, ◌⊎◌, max, List, ◌++◌, length, Option, Ok, Err};
 ghost use Rattle.tab_http.specs.Heads.{HasNoHead};
 ghost use Rattle.tab_http.specs.Messages.{Answer, Spells, IsOpen, IsParsers};
 ghost use Rattle.tab_http.specs.Reading.{TookMessage};
 ghost use Rattle.tab_http.specs.declared.messages.Message.{Message as TheMessage};
+ghost use Rattle.tab_http.specs.declared.refusals.HttpRefused.TheVariants.{ReadFault, Memory};
 ghost use Rattle.tab_http.specs.declared.TheConstants.{LONGEST_READ};
 
 /// No bytes spell two answers, but where they begin with no head and the parser decides between two refusals.
@@ -14,6 +15,12 @@ pub fn bytes_spell_one_answer()
 /// There are no bytes that spell no answer.
 pub fn bytes_spell_some_answer()
     ensures { (bytes : List ℕ) → ((answer : Answer) → Spells bytes answer → ⊥) → ⊥ }
+{}
+
+/// Bytes are refused for what they are: they spell no fault of a read, and no want of memory.
+pub fn bytes_spell_no_fault()
+    ensures fault { (bytes : List ℕ) → Spells bytes (Err ReadFault) → ⊥ }
+    ensures memory { (bytes : List ℕ) → Spells bytes (Err Memory) → ⊥ }
 {}
 
 /// What follows a message does not change it.

@@ -19,8 +19,8 @@ pub use decimals::decimal_value;
 pub use header_fields::trim_blanks;
 pub use heads::Head;
 pub use laws::{
-    bytes_spell_one_answer, bytes_spell_some_answer, little_is_read_past_a_message,
-    open_bytes_spell_no_message, same_message_before_more,
+    bytes_spell_no_fault, bytes_spell_one_answer, bytes_spell_some_answer,
+    little_is_read_past_a_message, open_bytes_spell_no_message, same_message_before_more,
 };
 pub use messages::{Header, Headers, Message, first_value};
 pub use reading::read_message;

@@ -50,7 +50,8 @@ fn take_message<S: Source>(
 }
 
 /// Reads until a head is at the front of `carry`, or until it has as many bytes without one as a head may have. The
-/// parser runs when a head may have ended, and once more where it has not, so that the work is linear in the bytes.
+/// parser runs over what is there, when a head may have ended, and once more where it has not, so that the work is
+/// linear in the bytes.
 fn read_head<S: Source>(
     alloc: Global,
     source: &mut S,
@@ -63,6 +64,9 @@ fn read_head<S: Source>(
     ensures later { S.faults source.old ≤ S.faults source.new }
     ensures beside { S.beside source.new ≡ S.beside source.old }
 {
+    if let Some(head) = Head::read(alloc, carry)? {
+        return Ok(head);
+    }
     let ended = read_to_head_end(source, carry)?;
     if let Some(head) = Head::read(alloc, carry)? {
         return Ok(head);
