@@ -6,4 +6,4 @@ pub returns-in-Ok : goal.returns-in-Ok
 returns-in-Ok c = (Ok c.in-Ok.request, c.in-Ok.ensures, refl)
 
 pub returns-in-Err-Why : goal.returns-in-Err-Why
-returns-in-Err-Why c = IfOk-weaker c.refused.result _ _ (λ decided is. (Err c.in-Err-Why.part, c.in-Err-Why.ensures, is)) c.refused.ensures
+returns-in-Err-Why c = IfOk-weaker c.refused.result _ _ (λ decided is. (Err c.in-Err-Why.part, rw c.in-Err-Why.field-0-is at c.in-Err-Why.ensures, is)) c.refused.ensures
