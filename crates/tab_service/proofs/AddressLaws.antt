@@ -11,8 +11,8 @@ use Rattle.std.proofs.lemmas.List.{take-append-drop, take_at, drop_at, drop-drop
 use Rattle.tab_http.specs.Headers.{same_name}
 use Rattle.tab_service.specs.Addresses.{doubled, keys_text, SpellsKeys, SpellsRow}
 use Rattle.tab_service.specs.Targets.{behind, text_of, quoted, value_named, without_spaces, closed, row_key_behind, keys_in, parted, is_tables, name_quoted, quoted_table, may_begin_name, row_at, in_parentheses, address_by, address_of, table_or_rows, resource_of}
-use Rattle.tab_service.specs.declared.targets.Resource.{Resource}
-use Rattle.tab_service.specs.declared.targets.Resource.TheVariants.{Tables, Rows, Row, Batch}
+use Rattle.tab_service.specs.declared.requests.targets.Resource.{Resource}
+use Rattle.tab_service.specs.declared.requests.targets.Resource.TheVariants.{Tables, Rows, Row, Batch}
 
 -- ---- the keys
 

@@ -2,13 +2,16 @@
 use Rattle.std.proofs.Common.{◌≡◌, ℕ, ◌+◌, ◌<◌, ◌≤◌, Bool, List, [], ◌∷◌, ◌++◌, length, drop, get_or, Option, Some, Result, Ok, Err, refl, sym, ap, subst, ◌∙◌, append_assoc, append-nil, drop-cons, add-one}
 use Rattle.std.proofs.lemmas.List.{drop_all}
 use Rattle.tab_http.specs.declared.messages.Message.{Message}
-use Rattle.tab_service.specs.Batches.{Operations, refused_at, with_part, part_of, operations_from, grouped_request, unread, batch_request, boundary_in, IsReadUnder, IsBatchOf}
+use Rattle.tab_service.specs.Answers.{IsDue}
+use Rattle.tab_service.specs.Batches.{of_part, Operations, refused_at, with_part, part_of, operations_from, grouped_request, unread, batch_request, boundary_in, IsReadUnder, IsBatchOf}
 use Rattle.tab_batch.specs.Refusals.{IsBatch, Refuses, IsDecided}
 use Rattle.tab_batch.specs.declared.refusals.BatchRefused.{BatchRefused}
 use Rattle.tab_service.specs.declared.forms.Request.{Request}
-use Rattle.tab_service.specs.declared.batches.PartRefusal.{PartRefusal}
+use Rattle.tab_service.specs.declared.refusals.PartRefusal.{PartRefusal}
 use Rattle.tab_service.specs.declared.refusals.Refusal.{Refusal}
-use Rattle.tab_service.specs.declared.writes.Operation.{Operation}
+use Rattle.tab_service.specs.declared.refusals.Refused.{Refused}
+use Rattle.tab_service.specs.declared.refusals.Refused.TheVariants as refused
+use Rattle.tab_service.specs.declared.requests.writes.Operation.{Operation}
 
 -- more operations behind these
 abbrev pub behind : Operations → Result Operations PartRefusal → Result Operations PartRefusal
@@ -38,6 +41,12 @@ pub refused_part : (index : ℕ) (account : List ℕ) (messages : List Message) 
     → Err why ≡ part_of account message → behind front (operations_from index account (drop index messages)) ≡ Err (refused_at index why)
 refused_part index account messages message front why within is found =
     ap (behind front) (one_more index account messages message within is ∙ ap (λ (p : Result Operation Refusal). with_part index p (operations_from (index + 1) account (drop (index + 1) messages))) (sym found))
+
+-- a part that is not read
+pub stopped_part : (index : ℕ) (account : List ℕ) (messages : List Message) (message : Message) (front : Operations) (stop : Refused Refusal) → index < length messages → message ≡ get_or messages index message
+    → IsDue (λ answer. part_of account message ≡ answer) stop → IsDue (λ answer. behind front (operations_from index account (drop index messages)) ≡ answer) (of_part index stop)
+stopped_part index account messages message front (refused.Why why) within is found = refused_part index account messages message front why within is (sym found)
+stopped_part index account messages message front refused.Memory within is found = tt
 
 nothing_more : (front : Operations) → behind front (Ok ([], [])) ≡ Ok front
 nothing_more front = simp append-nil

@@ -15,7 +15,7 @@ use Rattle.tab_service.specs.Replies.{continuation}
 use Rattle.tab_service.specs.TableQueries.{options_result, sole_option, count_of, token_name, name_in_token, after_of, without_filter, table_window}
 use Rattle.tab_service.proofs.NameLaws.{name_is_key}
 use Rattle.tab_service.specs.declared.refusals.Refusal.{Refusal}
-use Rattle.tab_service.specs.declared.table_queries.TableWindow.{TableWindow}
+use Rattle.tab_service.specs.declared.requests.table_queries.TableWindow.{TableWindow}
 
 -- ---- pages
 

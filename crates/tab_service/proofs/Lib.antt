@@ -8,6 +8,8 @@ pub mod PlainLaws
 mod NameLaws
 pub mod FollowLaws
 mod QuoteLemmas
-mod ReplyLemmas
+pub mod ReplyLemmas
 mod TextLemmas
 mod BatchLemmas
+pub mod AuthLemmas
+mod AnswerLemmas

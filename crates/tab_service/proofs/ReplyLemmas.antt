@@ -42,3 +42,11 @@ pub bodiless_in_turn : (status : ℕ) (last : Header) (more : List Header) (h1 h
 bodiless_in_turn status last more h1 h2 h3 h4 p1 p2 p3 p4 =
     p4 ∙ ap (λ h. h ++ codes "\r\n") (p3 ∙ ap (λ h. h ++ header_line last) (p2 ∙ ap (λ h. h ++ flat_map header_line more) p1))
     ∙ bodiless_parts status last more
+
+-- words with nothing in them
+pub plain_words : (text : List ℕ) → text ++ [] ++ [] ≡ text
+plain_words text = append-nil (text ++ []) ∙ append-nil text
+
+-- three more words behind others
+pub behind_words : (front a b c : List ℕ) → front ++ (a ++ b ++ c) ≡ front ++ a ++ b ++ c
+behind_words front a b c = simp append_assoc

@@ -26,22 +26,22 @@ use Rattle.tab_service.specs.Requests.{tables_request, create_request, drop_requ
 use Rattle.tab_service.specs.Forms.{IsPartOf, ArePartsOf, IsInForm}
 use Rattle.tab_service.specs.Batches.{Operations, part_on, part_of, with_part, operations_from, request_for, grouped_request, batch_request, boundary_in, IsReadUnder, IsBatchOf}
 use Rattle.tab_service.specs.Decisions.{on_tables, on_table, on_rows, on_row, on_batch, one_request, decided_on, decided_at, if_signed, asked_of, answered, ComesTo, IsDecision}
-use Rattle.tab_service.specs.declared.batches.PartRefusal.{PartRefusal}
-use Rattle.tab_service.specs.declared.decisions.Asked.{Asked}
-use Rattle.tab_service.specs.declared.decisions.Asked.TheVariants.{One, Many}
-use Rattle.tab_service.specs.declared.decisions.Decided.{Decided}
-use Rattle.tab_service.specs.declared.decisions.Decided.TheVariants.{Go, No}
+use Rattle.tab_service.specs.declared.refusals.PartRefusal.{PartRefusal}
+use Rattle.tab_service.specs.declared.requests.decide.Asked.{Asked}
+use Rattle.tab_service.specs.declared.requests.decide.Asked.TheVariants.{One, Many}
+use Rattle.tab_service.specs.declared.requests.decide.Decided.{Decided}
+use Rattle.tab_service.specs.declared.requests.decide.Decided.TheVariants.{Go, No}
 use Rattle.tab_service.specs.declared.forms.PartForm.{PartForm}
 use Rattle.tab_service.specs.declared.forms.Prefer.{Prefer}
 use Rattle.tab_service.specs.declared.forms.Prefer.TheVariants.{Unsaid}
 use Rattle.tab_service.specs.declared.forms.Request.{Request}
 use Rattle.tab_service.specs.declared.refusals.Refusal.{Refusal}
 use Rattle.tab_service.specs.declared.refusals.Refusal.TheVariants.{Method, NoBoundary}
-use Rattle.tab_service.specs.declared.targets.Resource.{Resource}
-use Rattle.tab_service.specs.declared.targets.Resource.TheVariants.{Tables, Table, Rows, Row, Batch}
-use Rattle.tab_service.specs.declared.writes.Operation.{Operation}
-use Rattle.tab_service.specs.declared.writes.Writing.{Writing}
-use Rattle.tab_service.specs.declared.writes.Writing.TheVariants.{Replacing, Merging}
+use Rattle.tab_service.specs.declared.requests.targets.Resource.{Resource}
+use Rattle.tab_service.specs.declared.requests.targets.Resource.TheVariants.{Tables, Table, Rows, Row, Batch}
+use Rattle.tab_service.specs.declared.requests.writes.Operation.{Operation}
+use Rattle.tab_service.specs.declared.requests.writes.Writing.{Writing}
+use Rattle.tab_service.specs.declared.requests.writes.Writing.TheVariants.{Replacing, Merging}
 
 abbrev Keeps : List ℕ → Result Request Refusal → Type 0
 Keeps account decided = IfOk decided (λ request. IsInForm account request)

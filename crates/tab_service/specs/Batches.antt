@@ -14,15 +14,17 @@ use Rattle.tab_batch.specs.Refusals.{Answer, IsBatchAnswer}
 use Rattle.tab_batch.specs.declared.refusals.BatchRefused.{BatchRefused}
 use Rattle.tab_batch.specs.declared.refusals.BatchRefused.TheVariants as batch
 use Rattle.tab_service.specs.Requests.{table_name, row_keys, change_in_rows, change_of_row, resource_at}
-use Rattle.tab_service.specs.declared.batches.PartRefusal.{PartRefusal}
+use Rattle.tab_service.specs.declared.refusals.PartRefusal.{PartRefusal}
 use Rattle.tab_service.specs.declared.forms.Form.{Form}
 use Rattle.tab_service.specs.declared.forms.PartForm.{PartForm}
 use Rattle.tab_service.specs.declared.forms.Request.{Request}
 use Rattle.tab_service.specs.declared.refusals.Refusal.{Refusal}
 use Rattle.tab_service.specs.declared.refusals.Refusal.TheVariants.{Path, NoBoundary, Multipart, Group}
-use Rattle.tab_service.specs.declared.targets.Resource.{Resource}
-use Rattle.tab_service.specs.declared.targets.Resource.TheVariants.{Tables, Table, Rows, Row, Batch}
-use Rattle.tab_service.specs.declared.writes.Operation.{Operation}
+use Rattle.tab_service.specs.declared.refusals.Refused.{Refused}
+use Rattle.tab_service.specs.declared.refusals.Refused.TheVariants as refused
+use Rattle.tab_service.specs.declared.requests.targets.Resource.{Resource}
+use Rattle.tab_service.specs.declared.requests.targets.Resource.TheVariants.{Tables, Table, Rows, Row, Batch}
+use Rattle.tab_service.specs.declared.requests.writes.Operation.{Operation}
 
 -- ---- parts
 
@@ -47,6 +49,11 @@ Operations = List ItemView × List PartForm
 -- the refusal of the part of this index
 abbrev pub refused_at : ℕ → Refusal → PartRefusal
 refused_at index why = record { index = Some index; why = why }
+
+-- the same of the batch, where a part is refused or no memory was found
+abbrev pub of_part : ℕ → Refused Refusal → Refused PartRefusal
+of_part index (refused.Why why) = refused.Why (refused_at index why)
+of_part index refused.Memory = refused.Memory
 
 abbrev pub with_part : ℕ → Result Operation Refusal → Result Operations PartRefusal → Result Operations PartRefusal
 with_part index (Err why) more = Err (refused_at index why)

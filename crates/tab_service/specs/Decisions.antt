@@ -11,16 +11,16 @@ use Rattle.tab_service.specs.Preferences.{format_with_body}
 use Rattle.tab_service.specs.Refusals.{refusal_text}
 use Rattle.tab_service.specs.Requests.{single, table_name, row_keys, decided_tables, decided_create, decided_drop, decided_page, decided_row, change_in_rows, change_of_row, resource_at}
 use Rattle.tab_service.specs.Batches.{IsBatchOf}
-use Rattle.tab_service.specs.declared.batches.PartRefusal.{PartRefusal}
-use Rattle.tab_service.specs.declared.decisions.Asked.{Asked}
-use Rattle.tab_service.specs.declared.decisions.Asked.TheVariants.{One, Many}
-use Rattle.tab_service.specs.declared.decisions.Decided.{Decided}
-use Rattle.tab_service.specs.declared.decisions.Decided.TheVariants.{Go, No}
+use Rattle.tab_service.specs.declared.refusals.PartRefusal.{PartRefusal}
+use Rattle.tab_service.specs.declared.requests.decide.Asked.{Asked}
+use Rattle.tab_service.specs.declared.requests.decide.Asked.TheVariants.{One, Many}
+use Rattle.tab_service.specs.declared.requests.decide.Decided.{Decided}
+use Rattle.tab_service.specs.declared.requests.decide.Decided.TheVariants.{Go, No}
 use Rattle.tab_service.specs.declared.forms.Request.{Request}
 use Rattle.tab_service.specs.declared.refusals.Refusal.{Refusal}
 use Rattle.tab_service.specs.declared.refusals.Refusal.TheVariants.{Auth, Method}
-use Rattle.tab_service.specs.declared.targets.Resource.{Resource}
-use Rattle.tab_service.specs.declared.targets.Resource.TheVariants.{Tables, Table, Rows, Row, Batch}
+use Rattle.tab_service.specs.declared.requests.targets.Resource.{Resource}
+use Rattle.tab_service.specs.declared.requests.targets.Resource.TheVariants.{Tables, Table, Rows, Row, Batch}
 
 -- ---- by method
 

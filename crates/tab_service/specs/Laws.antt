@@ -18,7 +18,7 @@ use Rattle.tab_service.specs.TableQueries.{table_window}
 use Rattle.tab_service.specs.declared.forms.PartForm.{PartForm}
 use Rattle.tab_service.specs.declared.forms.Request.{Request}
 use Rattle.tab_service.specs.declared.refusals.Refusal.{Refusal}
-use Rattle.tab_service.specs.declared.table_queries.TableWindow.{TableWindow}
+use Rattle.tab_service.specs.declared.requests.table_queries.TableWindow.{TableWindow}
 
 -- ---- continuations
 

@@ -1,4 +1,6 @@
 pub mod Causes
+pub mod CauseViews
+pub mod Answers
 pub mod Targets
 pub mod Addresses
 pub mod Signing

@@ -33,11 +33,11 @@ use Rattle.tab_service.specs.declared.forms.Prefer.TheVariants.{Unsaid}
 use Rattle.tab_service.specs.declared.forms.Request.{Request}
 use Rattle.tab_service.specs.declared.refusals.Refusal.{Refusal}
 use Rattle.tab_service.specs.declared.refusals.Refusal.TheVariants.{Path, Method, Key, Name, Body, NoTableName, KeysMissing, Entity}
-use Rattle.tab_service.specs.declared.table_queries.TableWindow.{TableWindow}
-use Rattle.tab_service.specs.declared.targets.Resource.{Resource}
-use Rattle.tab_service.specs.declared.writes.Operation.{Operation}
-use Rattle.tab_service.specs.declared.writes.Writing.{Writing}
-use Rattle.tab_service.specs.declared.writes.Writing.TheVariants.{Replacing, Merging}
+use Rattle.tab_service.specs.declared.requests.table_queries.TableWindow.{TableWindow}
+use Rattle.tab_service.specs.declared.requests.targets.Resource.{Resource}
+use Rattle.tab_service.specs.declared.requests.writes.Operation.{Operation}
+use Rattle.tab_service.specs.declared.requests.writes.Writing.{Writing}
+use Rattle.tab_service.specs.declared.requests.writes.Writing.TheVariants.{Replacing, Merging}
 
 -- ---- requests
 

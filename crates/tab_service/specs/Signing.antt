@@ -28,11 +28,19 @@ first_of (value ∷ later) = Some value
 unfoldable pub comp_of : List ℕ → Option (List ℕ)
 comp_of query = first_of (values (codes "comp") (raw_pairs query))
 
--- what is signed, and how: headers that are no texts count as absent
-unfoldable pub signed_of : Message → Signed
-signed_of message = record {
-  authorization = option_and_then text_of (sole_value (codes "authorization") message.headers);
-  date = option_and_then text_of (date_value message.headers);
-  path = path_of message.target;
-  comp = comp_of (query_of message.target);
+-- what is signed of these headers, this path and this query: headers that are no texts count as absent
+unfoldable pub signed_by : List Header → List ℕ → List ℕ → Signed
+signed_by headers path query = record {
+  authorization = option_and_then text_of (sole_value (codes "authorization") headers);
+  date = option_and_then text_of (date_value headers);
+  path = path;
+  comp = comp_of query;
 }
+
+-- what is signed, and how
+unfoldable pub signed_of : Message → Signed
+signed_of message = signed_by message.headers (path_of message.target) (query_of message.target)
+
+-- the path alone
+abbrev pub unsigned : List ℕ → Signed
+unsigned path = record { authorization = None; date = None; path = path; comp = None }

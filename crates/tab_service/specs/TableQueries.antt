@@ -10,7 +10,7 @@ use Rattle.tab_page.specs.declared.queries.OptionRefused.{OptionRefused}
 use Rattle.tab_page.specs.declared.queries.OptionRefused.TheVariants as option
 use Rattle.tab_service.specs.declared.refusals.Refusal.{Refusal}
 use Rattle.tab_service.specs.declared.refusals.Refusal.TheVariants.{Options, FilterOfTables}
-use Rattle.tab_service.specs.declared.table_queries.TableWindow.{TableWindow}
+use Rattle.tab_service.specs.declared.requests.table_queries.TableWindow.{TableWindow}
 
 -- what comes next, unless the request was refused before
 abbrev pub options_result : {A : Type 0} → Result A OptionRefused → Result A Refusal

@@ -4,8 +4,8 @@ use Rattle.std.specs.List.{list_any, position_or_len, before_first, after_first}
 use Rattle.std.specs.Str.{is_utf8}
 use Rattle.percent_encoding.specs.Percent.{percent_decode}
 use Rattle.tab_http.specs.Headers.{same_name}
-use Rattle.tab_service.specs.declared.targets.Resource.{Resource}
-use Rattle.tab_service.specs.declared.targets.Resource.TheVariants.{Tables, Table, Rows, Row, Batch}
+use Rattle.tab_service.specs.declared.requests.targets.Resource.{Resource}
+use Rattle.tab_service.specs.declared.requests.targets.Resource.TheVariants.{Tables, Table, Rows, Row, Batch}
 
 -- ---- paths and queries
 

@@ -1,12 +1,15 @@
 //! What a request asks, and in which form its reply is wanted.
 ghost use Rattle.std.specs.Prelude.{◌≡◌, [], ◌∷◌, IfOk};
+ghost use Rattle.tab_service.specs.Requests.{form_of, plain_part};
 
+use crate::copies::owned;
 use std::alloc::Global;
 use std::marker::Model;
 use tab_edm::TextValue;
 use tab_history::Ask;
 use tab_json::JsonForm;
 use tab_keys::Memory;
+use tab_page::Select;
 
 /// What a client prefers as the reply to an insert.
 #[derive(Clone, Copy, Debug, PartialEq, Eq)]
@@ -83,6 +86,36 @@ pub struct Form {
     pub json: JsonForm,
     /// One for each operation of a batch, and else one.
     pub parts: PartForms,
+}
+
+/// The form of a request with one part, whose reply has these properties.
+pub(crate) fn form_of(
+    alloc: Global,
+    account: &str,
+    select: Select,
+    part: PartForm,
+) -> Result<Form, Memory>
+    ensures { IfOk result (λ form. form ≡ form_of account.now select part) }
+{
+    let minimal = part.minimal;
+    Ok(Form {
+        account: owned(alloc, account)?,
+        batch: false,
+        json: JsonForm { minimal, select },
+        parts: PartForms::of(alloc, part)?,
+    })
+}
+
+/// The form of a part that is no operation.
+pub(crate) fn plain_part(minimal: bool, prefer: Prefer) -> PartForm
+    ensures { result ≡ plain_part minimal prefer }
+{
+    PartForm {
+        insert: false,
+        delete: false,
+        minimal,
+        prefer,
+    }
 }
 
 /// What a message asks, and how it wants its reply.

@@ -19,11 +19,11 @@ ghost use Rattle.tab_service.specs.Laws.{IsFollowedByPage, IsFollowedByList, IsR
 ghost use Rattle.tab_service.specs.Replies.{Suits, reply_text};
 ghost use Rattle.tab_service.specs.Signing.{signed_of};
 ghost use Rattle.tab_service.specs.Targets.{keys_in, resource_of};
-ghost use Rattle.tab_service.specs.declared.decisions.Decided.{Decided};
+ghost use Rattle.tab_service.specs.declared.requests.decide.Decided.{Decided};
 ghost use Rattle.tab_service.specs.declared.forms.PartForm.{PartForm};
 ghost use Rattle.tab_service.specs.declared.forms.Request.{Request};
-ghost use Rattle.tab_service.specs.declared.table_queries.TableWindow.{TableWindow};
-ghost use Rattle.tab_service.specs.declared.targets.Resource.TheVariants.{Row};
+ghost use Rattle.tab_service.specs.declared.requests.table_queries.TableWindow.{TableWindow};
+ghost use Rattle.tab_service.specs.declared.requests.targets.Resource.TheVariants.{Row};
 
 use tab_batch::a_batch_has_some_answer;
 

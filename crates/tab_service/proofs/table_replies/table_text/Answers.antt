@@ -1,4 +1,0 @@
-use Rattle.tab_service.proofs.table_replies.table_text.Goals as goal
-
-pub returns-in-Some : goal.returns-in-Some
-returns-in-Some c = rw c.in-Some.is c.reply_with_body-in-Some.ensures
