@@ -526,5 +526,5 @@ fn fault_bytes(alloc: Global, status: u16, code: &str, text: &str) -> Result<Vec
     ensures { IfOk result (λ bytes. bytes.items ≡ fault_reply status code.now text.now) }
 {
     let body = write_fault(alloc, code, text)?;
-    reply_with_body(alloc, status, JSON, &[], body.as_str().as_bytes())
+    reply_with_body(alloc, status, JSON, &[], body.as_str())
 }
