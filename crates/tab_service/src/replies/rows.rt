@@ -222,9 +222,13 @@ fn version_reply(alloc: Global, version: &Version) -> Result<Vec<u8>, Memory>
         ≡ bodiless_reply 204 ((codes "ETag", text_of_etag version.now.tick) ∷ (codes "Preference-Applied", codes "return-no-content") ∷ [])) }
 {
     let etag = etag_of(alloc, version.tick())?;
-    let headers = [
-        ("ETag", etag.as_str()),
-        ("Preference-Applied", "return-no-content"),
-    ];
+    version_bytes(alloc, etag.as_str())
+}
+
+fn version_bytes(alloc: Global, etag: &str) -> Result<Vec<u8>, Memory>
+    ensures { IfOk result (λ bytes. bytes.items
+        ≡ bodiless_reply 204 ((codes "ETag", etag.now) ∷ (codes "Preference-Applied", codes "return-no-content") ∷ [])) }
+{
+    let headers = [("ETag", etag), ("Preference-Applied", "return-no-content")];
     bodiless_bytes(alloc, &headers)
 }
