@@ -11,8 +11,8 @@ use Rattle.tab_service.specs.Decisions.{IsDecision}
 use Rattle.tab_service.specs.Refusals.{http_fault}
 use Rattle.tab_service.specs.Signing.{signed_of}
 use Rattle.tab_service.specs.declared.forms.Request.{Request}
-use Rattle.tab_service.specs.declared.decisions.Decided.{Decided}
-use Rattle.tab_service.specs.declared.decisions.Decided.TheVariants.{Go, No}
+use Rattle.tab_service.specs.declared.requests.decide.Decided.{Decided}
+use Rattle.tab_service.specs.declared.requests.decide.Decided.TheVariants.{Go, No}
 use Rattle.tab_drive.specs.Messages.{inside, whole, AreRead, AreSigned, ComeTo}
 use Rattle.tab_drive.specs.Messages.ComeTo.{as_message, as_none}
 

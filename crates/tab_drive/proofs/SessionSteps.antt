@@ -20,8 +20,8 @@ use Rattle.tab_service.specs.declared.forms.PartForm.{PartForm}
 use Rattle.tab_service.specs.declared.forms.Request.{Request}
 use Rattle.tab_service.specs.Decisions.{IsDecision}
 use Rattle.tab_service.specs.Refusals.{http_fault}
-use Rattle.tab_service.specs.declared.decisions.Decided.{Decided}
-use Rattle.tab_service.specs.declared.decisions.Decided.TheVariants.{Go, No}
+use Rattle.tab_service.specs.declared.requests.decide.Decided.{Decided}
+use Rattle.tab_service.specs.declared.requests.decide.Decided.TheVariants.{Go, No}
 use Rattle.tab_service.specs.Forms.{HasParts, IsFormOf, IsInForm}
 use Rattle.tab_service.specs.Replies.{SuitsAsk, Suits, reply_text, denied_reply, memory_fault}
 use Rattle.tab_drive.specs.Messages.{AreRead, ComeTo}

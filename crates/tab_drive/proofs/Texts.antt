@@ -6,8 +6,8 @@ use Rattle.tab_history.specs.declared.asks.Reply.{Reply}
 use Rattle.tab_service.specs.declared.forms.Request.{Request}
 use Rattle.tab_service.specs.Replies.{reply_text}
 use Rattle.tab_auth.specs.declared.signatures.Keys.{Keys}
-use Rattle.tab_service.specs.declared.decisions.Decided.{Decided}
-use Rattle.tab_service.specs.declared.decisions.Decided.TheVariants.{Go, No}
+use Rattle.tab_service.specs.declared.requests.decide.Decided.{Decided}
+use Rattle.tab_service.specs.declared.requests.decide.Decided.TheVariants.{Go, No}
 use Rattle.tab_drive.specs.Schedule.{spelling}
 use Rattle.tab_drive.specs.RunStates.{RunState, Exchange, Happens, Answers, Refuses, Takes, StandsAlone, reply_of, reply_outcome, Follows, state_after, bytes_of, entries_of, text_of}
 use Rattle.tab_drive.specs.declared.schedule.Scheduled.{Scheduled}

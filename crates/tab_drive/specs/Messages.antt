@@ -9,8 +9,8 @@ use Rattle.tab_http.specs.declared.refusals.HttpRefused.TheVariants as http
 use Rattle.tab_service.specs.Decisions.{IsDecision}
 use Rattle.tab_service.specs.Refusals.{http_fault}
 use Rattle.tab_service.specs.Signing.{signed_of}
-use Rattle.tab_service.specs.declared.decisions.Decided.{Decided}
-use Rattle.tab_service.specs.declared.decisions.Decided.TheVariants.{No}
+use Rattle.tab_service.specs.declared.requests.decide.Decided.{Decided}
+use Rattle.tab_service.specs.declared.requests.decide.Decided.TheVariants.{No}
 
 -- a message with nothing behind it
 abbrev pub alone : Message → List ℕ → Result Message HttpRefused

@@ -19,7 +19,7 @@ use Rattle.tab_history.specs.declared.asks.Ask.TheVariants as ask
 use Rattle.tab_history.specs.declared.asks.Reply.{Reply}
 use Rattle.tab_history.specs.declared.asks.Reply.TheVariants as reply
 use Rattle.tab_service.specs.declared.forms.Request.{Request}
-use Rattle.tab_service.specs.declared.decisions.Decided.TheVariants.{Go, No}
+use Rattle.tab_service.specs.declared.requests.decide.Decided.TheVariants.{Go, No}
 use Rattle.tab_service.specs.Replies.{reply_text}
 use Rattle.tab_drive.specs.Schedule.{line_feed, spelling, Fits, IsNoEvent, end_line}
 use Rattle.tab_drive.specs.Messages.{ComeTo}

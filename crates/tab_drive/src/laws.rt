@@ -2,8 +2,8 @@
 ghost use Rattle.std.specs.Prelude.{◌≡◌, ℕ, List, ◌++◌, length, Some};
 ghost use Rattle.tab_auth.specs.declared.signatures.Keys.{Keys};
 ghost use Rattle.tab_history.specs.declared.entries.Entry.{Entry};
-ghost use Rattle.tab_service.specs.declared.decisions.Decided.{Decided};
-ghost use Rattle.tab_service.specs.declared.decisions.Decided.TheVariants as Decided;
+ghost use Rattle.tab_service.specs.declared.requests.decide.Decided.{Decided};
+ghost use Rattle.tab_service.specs.declared.requests.decide.Decided.TheVariants as Decided;
 ghost use Rattle.tab_service.specs.declared.forms.Request.{Request};
 ghost use Rattle.tab_drive.specs.Messages.{AreSigned, ComeTo};
 ghost use Rattle.tab_drive.specs.RunStates.{RunState, Exchange, Follows, bytes_of, entries_of, text_of};

@@ -15,8 +15,9 @@ pub use laws::{
     messages_have_some_decision, pages_are_followed_by_their_headers, requests_are_signed,
     rows_are_read_where_spelled, versions_are_read_as_their_ticks,
 };
-pub use refusals::{PartRefusal, Refusal, Refused};
-pub use replies::causes::refusal_reply;
+pub(crate) use refusals::Refused;
+pub use refusals::{PartRefusal, Refusal};
+pub use replies::denials::refusal_reply;
 pub use replies::ready::{http_fault, memory_reply};
 pub use replies::reply_bytes;
 pub use requests::decide::{

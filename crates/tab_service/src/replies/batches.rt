@@ -2,7 +2,7 @@
 ghost use Rattle.std.specs.Prelude.{◌≡◌, map, vec_items, IfOk};
 ghost use Rattle.tab_service.specs.Replies.{batch_reply};
 
-use super::heads::reply_with_body;
+use super::heads::reply_with_bytes;
 use std::alloc::Global;
 use tab_batch::write_batch;
 use tab_keys::Memory;
@@ -18,5 +18,5 @@ pub fn batch_reply(alloc: Global, replies: &[Vec<u8>]) -> Result<Vec<u8>, Memory
     let Ok(body) = write_batch(alloc, replies) else {
         return Err(Memory);
     };
-    reply_with_body(alloc, 202, BATCH, &[], &body)
+    reply_with_bytes(alloc, 202, BATCH, &[], &body)
 }

@@ -36,9 +36,23 @@ pub fn etag_of(alloc: Global, tick: u64) -> Result<String, Memory>
     etag_text(alloc, tick).map_err(|_| Memory)
 }
 
-/// The head, and the body behind it. More headers stand between those of the body and the version.
-#[tactic(auto, unfolding(crate::specs::Replies::reply_with_body))]
+/// The head, and the text behind it. More headers stand between those of the body and the version.
 pub fn reply_with_body(
+    alloc: Global,
+    status: u16,
+    kind: &str,
+    more: &[(&str, &str)],
+    body: &str,
+) -> Result<Vec<u8>, Memory>
+    requires { IsStatusCode status }
+    ensures { IfOk result (λ bytes. bytes.items ≡ reply_with_body status kind.now (map (λ header. (header.0.now, header.1.now)) more.now) body.now) }
+{
+    reply_with_bytes(alloc, status, kind, more, body.as_bytes())
+}
+
+/// The same with a body of bytes.
+#[tactic(auto, unfolding(crate::specs::Replies::reply_with_body))]
+pub fn reply_with_bytes(
     alloc: Global,
     status: u16,
     kind: &str,

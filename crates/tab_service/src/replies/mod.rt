@@ -6,12 +6,13 @@ ghost use Rattle.tab_service.specs.Replies.{IsGet, IsPage, IsChange, Suits, foun
 
 pub mod batches;
 pub mod causes;
+pub mod denials;
 pub mod heads;
 pub mod ready;
 pub mod rows;
 pub mod tables;
 
-use self::causes::denied_reply;
+use self::denials::denied_reply;
 use self::heads::bodiless_bytes;
 use self::rows::{change_reply, page_reply, row_reply};
 use self::tables::{made_reply, tables_reply};

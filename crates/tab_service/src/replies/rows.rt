@@ -5,6 +5,7 @@ ghost use Rattle.tab_edm.specs.Moments.{text_of_etag};
 ghost use Rattle.tab_edm.specs.declared.TheConstants.{GREATEST};
 ghost use Rattle.tab_service.specs.Replies.{reply_with_body, continuation, page_reply, row_reply, applied, created_reply, bodiless_reply, insert_reply, written_reply, operation_reply, operation_replies, change_reply};
 ghost use Rattle.tab_service.specs.Forms.{IsFormOf};
+ghost use Rattle.tab_history.specs.declared.asks.Ask.TheVariants.{Change};
 
 use super::batches::batch_reply;
 use super::heads::{bodiless_bytes, etag_of, json_type, reply_with_body};
@@ -28,7 +29,7 @@ pub fn page_reply(
     let body = write_page(alloc, form.account.as_str(), name, page, &form.json)?;
     let kind = json_type(form.json.minimal);
     match &page.next {
-        None => reply_with_body(alloc, 200, kind, &[], body.as_str().as_bytes()),
+        None => reply_with_body(alloc, 200, kind, &[], body.as_str()),
         Some((pk, rk)) => continued_reply(alloc, kind, pk, rk, body.as_str()),
     }
 }
@@ -45,11 +46,24 @@ fn continued_reply(
 {
     let pk = Token::text(alloc, pk)?;
     let rk = Token::text(alloc, rk)?;
+    continued_text(alloc, kind, pk.as_str(), rk.as_str(), body)
+}
+
+fn continued_text<'a>(
+    alloc: Global,
+    kind: &str,
+    pk: &'a str,
+    rk: &'a str,
+    body: &str,
+) -> Result<Vec<u8>, Memory>
+    ensures { IfOk result (λ bytes. bytes.items ≡ reply_with_body 200 kind.now
+        ((codes "x-ms-continuation-NextPartitionKey", pk.now) ∷ (codes "x-ms-continuation-NextRowKey", rk.now) ∷ []) body.now) }
+{
     let headers = [
-        ("x-ms-continuation-NextPartitionKey", pk.as_str()),
-        ("x-ms-continuation-NextRowKey", rk.as_str()),
+        ("x-ms-continuation-NextPartitionKey", pk),
+        ("x-ms-continuation-NextRowKey", rk),
     ];
-    reply_with_body(alloc, 200, kind, &headers, body.as_bytes())
+    reply_with_body(alloc, 200, kind, &headers, body)
 }
 
 #[tactic(auto, unfolding(crate::specs::Replies::row_reply))]
@@ -60,19 +74,13 @@ pub fn row_reply(alloc: Global, form: &Form, name: &TableName, row: &Row) -> Res
     let body = write_version(alloc, form.account.as_str(), name, &version, &form.json)?;
     let etag = etag_of(alloc, version.tick())?;
     let kind = json_type(form.json.minimal);
-    reply_with_body(
-        alloc,
-        200,
-        kind,
-        &[("ETag", etag.as_str())],
-        body.as_str().as_bytes(),
-    )
+    reply_with_body(alloc, 200, kind, &[("ETag", etag.as_str())], body.as_str())
 }
 
 /// The reply to a change that stands, to its one operation or as that to a batch.
 #[tactic(auto, unfolding(crate::specs::Replies::operation_replies))]
 pub fn change_reply(alloc: Global, form: &Form, group: &Group, tick: u64) -> Result<Vec<u8>, Memory>
-    requires form { IsFormOf (Ask.Change group.now) form.now }
+    requires form { IsFormOf (Change group.now) form.now }
     requires in_time { tick ≤ GREATEST }
     ensures { IfOk result (λ bytes. bytes.items ≡ change_reply form.now group.now tick) }
 {
@@ -200,10 +208,10 @@ fn created_text<'a>(
         ≡ reply_with_body 201 kind.now ((codes "ETag", etag.now) ∷ applied (option_copied preference.entry)) body.now) }
 {
     match preference {
-        None => reply_with_body(alloc, 201, kind, &[("ETag", etag)], body.as_bytes()),
+        None => reply_with_body(alloc, 201, kind, &[("ETag", etag)], body),
         Some(text) => {
             let headers = [("ETag", etag), ("Preference-Applied", text)];
-            reply_with_body(alloc, 201, kind, &headers, body.as_bytes())
+            reply_with_body(alloc, 201, kind, &headers, body)
         }
     }
 }
@@ -214,9 +222,13 @@ fn version_reply(alloc: Global, version: &Version) -> Result<Vec<u8>, Memory>
         ≡ bodiless_reply 204 ((codes "ETag", text_of_etag version.now.tick) ∷ (codes "Preference-Applied", codes "return-no-content") ∷ [])) }
 {
     let etag = etag_of(alloc, version.tick())?;
-    let headers = [
-        ("ETag", etag.as_str()),
-        ("Preference-Applied", "return-no-content"),
-    ];
+    version_bytes(alloc, etag.as_str())
+}
+
+fn version_bytes(alloc: Global, etag: &str) -> Result<Vec<u8>, Memory>
+    ensures { IfOk result (λ bytes. bytes.items
+        ≡ bodiless_reply 204 ((codes "ETag", etag.now) ∷ (codes "Preference-Applied", codes "return-no-content") ∷ [])) }
+{
+    let headers = [("ETag", etag), ("Preference-Applied", "return-no-content")];
     bodiless_bytes(alloc, &headers)
 }

@@ -59,10 +59,10 @@ fn table_text(
     ensures { IfOk result (λ bytes. bytes.items ≡ reply_with_body 201 kind.now (applied (option_copied preference.entry)) body.now) }
 {
     match preference {
-        None => reply_with_body(alloc, 201, kind, &[], body.as_bytes()),
+        None => reply_with_body(alloc, 201, kind, &[], body),
         Some(text) => {
             let headers = [("Preference-Applied", text)];
-            reply_with_body(alloc, 201, kind, &headers, body.as_bytes())
+            reply_with_body(alloc, 201, kind, &headers, body)
         }
     }
 }
@@ -80,7 +80,7 @@ pub fn tables_reply(
     let body = write_tables(alloc, form.account.as_str(), names.as_slice(), &form.json)?;
     let kind = json_type(form.json.minimal);
     match next {
-        None => reply_with_body(alloc, 200, kind, &[], body.as_str().as_bytes()),
+        None => reply_with_body(alloc, 200, kind, &[], body.as_str()),
         Some(name) => continued_tables(alloc, kind, name, body.as_str()),
     }
 }
@@ -95,8 +95,15 @@ fn continued_tables(
     ensures { IfOk result (λ bytes. bytes.items ≡ reply_with_body 200 kind.now (table_continuation (Some name.now)) body.now) }
 {
     let token = name_token(alloc, name.as_str())?;
-    let headers = [("x-ms-continuation-NextTableName", token.as_str())];
-    reply_with_body(alloc, 200, kind, &headers, body.as_bytes())
+    tables_text(alloc, kind, token.as_str(), body)
+}
+
+fn tables_text(alloc: Global, kind: &str, token: &str, body: &str) -> Result<Vec<u8>, Memory>
+    ensures { IfOk result (λ bytes. bytes.items
+        ≡ reply_with_body 200 kind.now ((codes "x-ms-continuation-NextTableName", token.now) ∷ []) body.now) }
+{
+    let headers = [("x-ms-continuation-NextTableName", token)];
+    reply_with_body(alloc, 200, kind, &headers, body)
 }
 
 /// The token of a table's name.

@@ -22,7 +22,7 @@ use super::signing::{signed_by, unsigned};
 use super::tables::{decided_create, decided_drop, decided_tables};
 use super::targets::{Resource, resource_at, split_target};
 use super::writes::{change_in_rows, change_of_row, change_request};
-use crate::replies::causes::refusal_reply;
+use crate::replies::denials::refusal_reply;
 use crate::{Refusal, Refused, ReplyBytes, Request};
 use std::alloc::Global;
 use tab_auth::{AuthRefused, Keys, Signed, check};

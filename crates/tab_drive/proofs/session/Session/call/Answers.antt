@@ -1,6 +1,6 @@
 use Rattle.std.proofs.Common.{sym, ap, subst}
 use Rattle.tab_service.specs.Decisions.{IsDecision}
-use Rattle.tab_service.specs.declared.decisions.Decided.{Decided}
+use Rattle.tab_service.specs.declared.requests.decide.Decided.{Decided}
 use Rattle.tab_service.proofs.RequestLaws.{requests_are_in_form}
 use Rattle.tab_drive.specs.Outgoing.{outgoing_text}
 use Rattle.tab_drive.proofs.Exits.{ok_weaker}

@@ -2,7 +2,7 @@ use Rattle.std.proofs.Common.{◌∙◌, ◌++◌, List, ℕ, ap, codes}
 use Rattle.std.proofs.lemmas.Result.{IfOk-weaker}
 use Rattle.tab_service.specs.Causes as cause
 use Rattle.tab_service.specs.Replies.{error_text, fault_at}
-use Rattle.tab_service.proofs.replies.causes.busy_reply.Goals as goal
+use Rattle.tab_service.proofs.replies.denials.busy_reply.Goals as goal
 
 pub returns : goal.returns
 unfolding fault_at

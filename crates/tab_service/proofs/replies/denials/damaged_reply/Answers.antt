@@ -3,7 +3,7 @@ use Rattle.std.proofs.lemmas.Result.{IfOk-weaker}
 use Rattle.tab_service.specs.Causes as cause
 use Rattle.tab_service.specs.Replies.{error_text, fault_at}
 use Rattle.tab_service.proofs.ReplyLemmas.{behind_words}
-use Rattle.tab_service.proofs.replies.causes.damaged_reply.Goals as goal
+use Rattle.tab_service.proofs.replies.denials.damaged_reply.Goals as goal
 
 abbrev damaged : List ℕ → cause.Cause
 damaged text = cause.row 500 (codes "StoreDamaged") text
