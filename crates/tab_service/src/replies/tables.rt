@@ -19,9 +19,7 @@ pub fn made_reply(alloc: Global, form: &Form, name: &TableName) -> Result<Vec<u8
     match sole_prefer(form.parts.as_slice()) {
         Prefer::Unsaid => table_reply(alloc, form, name, None),
         Prefer::Content => table_reply(alloc, form, name, Some("return-content")),
-        Prefer::NoContent => {
-            bodiless_bytes(alloc, &[("Preference-Applied", "return-no-content")])
-        }
+        Prefer::NoContent => no_content_bytes(alloc),
     }
 }
 
@@ -33,6 +31,12 @@ fn sole_prefer(parts: &[PartForm]) -> Prefer
         [] => Prefer::Unsaid,
         [part, ..] => part.prefer,
     }
+}
+
+fn no_content_bytes(alloc: Global) -> Result<Vec<u8>, Memory>
+    ensures { IfOk result (λ bytes. bytes.items ≡ bodiless_reply 204 (applied (Some (codes "return-no-content")))) }
+{
+    bodiless_bytes(alloc, &[("Preference-Applied", "return-no-content")])
 }
 
 /// A table that was made, with the preference that counted.
