@@ -5,10 +5,10 @@ use Rattle.tab_drive.proofs.OpenLines.{IsLine-push, no_line_inside, no_line_behi
 use Rattle.tab_drive.proofs.Told.{told_front, told_all}
 use Rattle.tab_drive.proofs.reading.read_line.Goals as goal
 
-pub returns-in_default-clause-refused : goal.returns-in_default-clause-refused
-returns-in_default-clause-refused g c = λ _.
+pub returns-in_default-2-clause-refused : goal.returns-in_default-2-clause-refused
+returns-in_default-2-clause-refused g c = λ _.
     let here = c.loop-line.invariant in
-    let read = rw c.in_default.is at c.in_ok-byte.ensures.read in
+    let read = rw c.in_default-2.is at c.in_ok-byte.ensures.read in
     told_all _ _ _ _ _ here.consumed read.0 read.1 (no_line_inside _ here.is_line)
 
 pub returns-then-len-eq-LONGEST_LINE-clause-refused : goal.returns-then-len-eq-LONGEST_LINE-clause-refused
