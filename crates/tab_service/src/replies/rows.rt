@@ -1,5 +1,5 @@
 //! The replies on rows: a page and one row ("Query Entities"), and what came of writes ("Insert Entity" and the pages behind it).
-ghost use Rattle.std.specs.Prelude.{◌≡◌, ◌≤◌, ◌∷◌, ◌++◌, [], Some, map, codes, string_bytes, vec_items, IfOk};
+ghost use Rattle.std.specs.Prelude.{◌≡◌, ◌≤◌, ◌∷◌, [], Some, map, codes, vec_items, IfOk};
 ghost use Rattle.std.specs.Option.{option_copied};
 ghost use Rattle.tab_edm.specs.Moments.{text_of_etag};
 ghost use Rattle.tab_edm.specs.declared.TheConstants.{GREATEST};

@@ -1,6 +1,5 @@
 //! The condition of a write on the kept row: If-Match (RFC 9110, section 13.1.1).
 ghost use Rattle.std.specs.Prelude.{◌≡◌};
-ghost use Rattle.std.specs.Option.{option_copied};
 ghost use Rattle.tab_service.specs.Conditions.{tick_of_etag, tick_in, condition_for, needed_condition};
 
 use crate::Refusal;

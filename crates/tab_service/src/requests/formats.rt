@@ -2,7 +2,6 @@
 //! JSON), and Prefer (RFC 7240; Preference-Applied, section 3).
 ghost use Rattle.std.specs.Prelude.{◌≡◌, IfOk};
 ghost use Rattle.std.specs.Option.{option_copied};
-ghost use Rattle.tab_http.specs.Headers.{first_value};
 ghost use Rattle.tab_service.specs.Preferences.{has_part, asks_atom, format_in, format_for, names_atom, format_with_body, preference_for};
 ghost use Rattle.tab_service.specs.Answers.{Gives};
 
