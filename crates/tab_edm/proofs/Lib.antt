@@ -11,3 +11,4 @@ pub mod Pieces
 pub mod Readings
 pub mod MomentLaws
 pub mod MomentFunction
+pub mod AsciiMoments

@@ -1,5 +1,6 @@
 -- Names and values of properties, with their limits and their sizes.
-use Rattle.std.specs.Prelude.{ℕ, ◌+◌, ◌*◌, ◌≤◌, List, [], ◌∷◌, length, Bool, true, false, ◌&&◌, ◌||◌, ◌==◌, nat_le, chars, codes, bytes_eq, ⊤}
+use Rattle.std.specs.Prelude.{ℕ, ◌+◌, ◌*◌, ◌^◌, ◌≤◌, ◌<◌, ◌≡◌, List, [], ◌∷◌, length, Bool, true, false, ◌&&◌, ◌||◌, ◌==◌, nat_le, chars, codes, bytes_eq, All, IsUtf8, FitsSigned, ⊤}
+use Rattle.std.specs.Int.{w32, w64}
 use Rattle.std.specs.List.{list_all}
 use Rattle.unicode_ident.specs.Ident.{is_xid_start, is_xid_continue}
 use Rattle.tab_edm.specs.Texts.{unit_count}
@@ -8,6 +9,21 @@ use Rattle.tab_edm.specs.declared.values.Value.TheVariants.{Text, Flag, Int32, I
 use Rattle.tab_edm.specs.declared.values.Property.{Property}
 use Rattle.tab_edm.specs.declared.values.TheConstants.{MOST_TEXT_UNITS, MOST_BINARY_BYTES}
 use Rattle.tab_edm.specs.declared.TheConstants.{GREATEST}
+
+-- what each value of the program is: a text in UTF-8, a number of its size, a moment in 64 bits, 16 bytes, or bytes
+abbrev pub IsValue : Value → Type 0
+IsValue (Text text) = IsUtf8 text
+IsValue (Flag b) = ⊤
+IsValue (Int32 n) = FitsSigned w32 n
+IsValue (Int64 n) = FitsSigned w64 n
+IsValue (Moment tick) = tick < 2 ^ 64
+IsValue (Guid bytes) = (length bytes ≡ 16) × All (λ b. b < 256) bytes
+IsValue (Bytes bytes) = All (λ b. b < 256) bytes
+
+-- what each property of the program is
+pub record IsProperty (property : Property) : Type 0 where
+  pub name : IsUtf8 property.name
+  pub value : IsValue property.value
 
 -- a character that may begin a name, and one that may go on with it
 abbrev pub begins_name : ℕ → Bool

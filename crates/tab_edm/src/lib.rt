@@ -7,10 +7,12 @@ mod texts;
 mod values;
 
 pub use entities::{EdmRefused, Entity, MOST_PROPERTIES, MOST_SIZE};
-pub use moments::{etag_text, moment_text, read_etag, read_moment};
+pub use moments::{etag_text, moment_text, push_etag, push_moment, read_etag, read_moment};
 use std::alloc::{AllocError, AllocFailed};
 pub use texts::{BytesValue, TextValue, char_count, unit_count};
-pub use values::{Property, Value, is_identifier};
+pub use values::{
+    MOST_BINARY_BYTES, MOST_NAME_CHARACTERS, MOST_TEXT_UNITS, Property, Value, is_identifier,
+};
 
 /// A refusal by want of memory.
 #[derive(Clone, Copy, Debug, PartialEq, Eq)]

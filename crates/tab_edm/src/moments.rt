@@ -1,12 +1,13 @@
 //! Moments as texts, in the form of `Edm.DateTime` with a `Z` (OData 3.0; ISO 8601), and the ETags that are made of
 //! them (RFC 9110, section 8.8.3). The calendar is the Gregorian one for all years from 1601 to 9999.
 
-ghost use Rattle.std.specs.Prelude.{◌≡◌, ℕ, ◌+◌, ◌-◌, ◌*◌, ◌^◌, ◌↔◌, length, take, drop, IsTrue, MatchOption, IfSome, Some, ◌++◌, ◌/◌, ◌%◌, ◌≤◌, ◌<◌, IfOk, OnOk, pos, string_bytes};
-ghost use Rattle.tab_edm.specs.Moments.{CivilDate, IsServed, IsMoment, Spells, moment_of, date_after, last_digits, text_of_date, text_of_time, text_of_fraction, moment_with, text_of_moment, text_of_etag};
+ghost use Rattle.std.specs.Prelude.{◌≡◌, ℕ, ◌+◌, ◌-◌, ◌*◌, ◌^◌, ◌↔◌, length, take, drop, IsTrue, MatchOption, IfSome, Some, ◌++◌, ◌/◌, ◌%◌, ◌≤◌, ◌<◌, IfOk, OnOk, OnErr, pos, string_bytes};
+ghost use Rattle.tab_edm.specs.Moments.{CivilDate, IsServed, IsMoment, Spells, moment_of, date_after, last_digits, text_of_date, text_of_time, text_of_fraction, text_of_moment, text_of_etag};
 
 use crate::{GREATEST, Memory, TICKS_IN_A_SECOND};
 use jiff_core::civil::Date;
-use std::alloc::{AllocError, Global};
+use std::alloc::Global;
+use std::str;
 
 const TICKS_IN_A_DAY: u64 = 864_000_000_000;
 
@@ -29,7 +30,7 @@ pub fn moment_text(alloc: Global, tick: u64) -> Result<String, Memory>
     ensures { IfOk result (λ text. string_bytes text ≡ text_of_moment tick) }
 {
     let mut text = String::with_capacity(alloc, 28)?;
-    push_moment(&mut text, tick, ":")?;
+    push_moment(&mut text, tick)?;
     Ok(text)
 }
 
@@ -39,10 +40,30 @@ pub fn etag_text(alloc: Global, tick: u64) -> Result<String, Memory>
     ensures { IfOk result (λ text. string_bytes text ≡ text_of_etag tick) }
 {
     let mut text = String::with_capacity(alloc, 46)?;
-    text.push_str("W/\"datetime'")?;
-    push_moment(&mut text, tick, "%3A")?;
-    text.push_str("'\"")?;
+    push_etag(&mut text, tick)?;
     Ok(text)
+}
+
+/// Appends the text of a moment: 28 bytes, for which memory is taken only where the text has no room for them.
+pub fn push_moment(text: &mut String, tick: u64) -> Result<(), Memory>
+    requires { tick ≤ GREATEST }
+    ensures moment { OnOk result (string_bytes text.new ≡ string_bytes text.old ++ text_of_moment tick) }
+    ensures kept { OnErr result (string_bytes text.new ≡ string_bytes text.old) }
+{
+    let moment = moment_bytes(tick);
+    text.push_str(unsafe { str::from_utf8_unchecked(&moment) })?;
+    Ok(())
+}
+
+/// Appends the ETag of a row with this tick: 46 bytes, for which memory is taken only where the text has no room for them.
+pub fn push_etag(text: &mut String, tick: u64) -> Result<(), Memory>
+    requires { tick ≤ GREATEST }
+    ensures etag { OnOk result (string_bytes text.new ≡ string_bytes text.old ++ text_of_etag tick) }
+    ensures kept { OnErr result (string_bytes text.new ≡ string_bytes text.old) }
+{
+    let etag = etag_bytes(tick);
+    text.push_str(unsafe { str::from_utf8_unchecked(&etag) })?;
+    Ok(())
 }
 
 /// The tick of a text that gives a moment, with up to seven digits of its second's fraction.
@@ -67,32 +88,39 @@ pub fn read_etag(text: &str) -> Option<u64>
     read_tick(moment.as_bytes(), b"%3A")
 }
 
-/// Appends a moment, with `colon` for each colon.
-fn push_moment(text: &mut String, tick: u64, colon: &str) -> Result<(), AllocError>
-    requires { tick ≤ GREATEST }
-    ensures { OnOk result (string_bytes text.new ≡ string_bytes text.old ++ moment_with colon.now tick) }
-{
-    push_date(text, (tick / TICKS_IN_A_DAY) as u32)?;
-    text.push_str("T")?;
-    push_time(text, colon, tick / TICKS_IN_A_SECOND % 86_400)?;
-    text.push_str(".")?;
-    push_digits(text, 7, tick % TICKS_IN_A_SECOND)?;
-    text.push_str("Z")?;
-    Ok(())
+/// The digits that the text of a moment gives.
+#[derive(Clone, Copy, Drop)]
+struct Digits {
+    year: [u8; 4],
+    month: [u8; 2],
+    day: [u8; 2],
+    hour: [u8; 2],
+    minute: [u8; 2],
+    second: [u8; 2],
+    fraction: [u8; 7],
 }
 
-/// Appends the date that comes so many days after 1601-01-01.
-fn push_date(text: &mut String, days: u32) -> Result<(), AllocError>
-    requires { days ≤ 3_067_670 }
-    ensures { OnOk result (string_bytes text.new ≡ string_bytes text.old ++ text_of_date (date_after days)) }
+fn digits_of(tick: u64) -> Digits
+    requires { tick ≤ GREATEST }
+    ensures year { result.year ≡ last_digits 4 (date_after (tick / 864_000_000_000)).year }
+    ensures month { result.month ≡ last_digits 2 (date_after (tick / 864_000_000_000)).month }
+    ensures day { result.day ≡ last_digits 2 (date_after (tick / 864_000_000_000)).day }
+    ensures hour { result.hour ≡ last_digits 2 (tick / TICKS_IN_A_SECOND % 86_400 / 3600) }
+    ensures minute { result.minute ≡ last_digits 2 (tick / TICKS_IN_A_SECOND % 86_400 / 60 % 60) }
+    ensures second { result.second ≡ last_digits 2 (tick / TICKS_IN_A_SECOND % 86_400 % 60) }
+    ensures fraction { result.fraction ≡ last_digits 7 (tick % TICKS_IN_A_SECOND) }
 {
-    let date = date_after(days);
-    push_digits(text, 4, date.year.unsigned_abs() as u64)?;
-    text.push_str("-")?;
-    push_digits(text, 2, date.month as u64)?;
-    text.push_str("-")?;
-    push_digits(text, 2, date.day as u64)?;
-    Ok(())
+    let date = date_after((tick / TICKS_IN_A_DAY) as u32);
+    let second = tick / TICKS_IN_A_SECOND % 86_400;
+    Digits {
+        year: four_digits(date.year.unsigned_abs() as u64),
+        month: two_digits(date.month as u64),
+        day: two_digits(date.day as u64),
+        hour: two_digits(second / 3600),
+        minute: two_digits(second / 60 % 60),
+        second: two_digits(second % 60),
+        fraction: seven_digits(tick % TICKS_IN_A_SECOND),
+    }
 }
 
 /// The date that comes so many days after 1601-01-01.
@@ -105,28 +133,147 @@ fn date_after(days: u32) -> Date
     Date::from_days_since_min(days + FIRST_DAY)
 }
 
-/// Appends the time of this second of a day, with `colon` for each colon.
-fn push_time(text: &mut String, colon: &str, second: u64) -> Result<(), AllocError>
-    ensures { OnOk result (string_bytes text.new ≡ string_bytes text.old ++ text_of_time colon.now (second / 3600) (second / 60 % 60) (second % 60)) }
+/// The text of a moment.
+fn moment_bytes(tick: u64) -> [u8; 28]
+    requires { tick ≤ GREATEST }
+    ensures { result ≡ text_of_moment tick }
 {
-    push_digits(text, 2, second / 3600)?;
-    text.push_str(colon)?;
-    push_digits(text, 2, second / 60 % 60)?;
-    text.push_str(colon)?;
-    push_digits(text, 2, second % 60)?;
-    Ok(())
+    let at = digits_of(tick);
+    [
+        at.year[0],
+        at.year[1],
+        at.year[2],
+        at.year[3],
+        b'-',
+        at.month[0],
+        at.month[1],
+        b'-',
+        at.day[0],
+        at.day[1],
+        b'T',
+        at.hour[0],
+        at.hour[1],
+        b':',
+        at.minute[0],
+        at.minute[1],
+        b':',
+        at.second[0],
+        at.second[1],
+        b'.',
+        at.fraction[0],
+        at.fraction[1],
+        at.fraction[2],
+        at.fraction[3],
+        at.fraction[4],
+        at.fraction[5],
+        at.fraction[6],
+        b'Z',
+    ]
 }
 
-/// Appends the last digits of a number, so many of them.
-fn push_digits(text: &mut String, count: u32, n: u64) -> Result<(), AllocError>
-    ensures { OnOk result (string_bytes text.new ≡ string_bytes text.old ++ last_digits count n) }
+/// The ETag of a moment.
+fn etag_bytes(tick: u64) -> [u8; 46]
+    requires { tick ≤ GREATEST }
+    ensures { result ≡ text_of_etag tick }
 {
-    if count == 0 {
-        return Ok(());
-    }
-    push_digits(text, count - 1, n / 10)?;
-    text.push(char::from(b'0' + (n % 10) as u8))?;
-    Ok(())
+    let at = digits_of(tick);
+    [
+        b'W',
+        b'/',
+        b'"',
+        b'd',
+        b'a',
+        b't',
+        b'e',
+        b't',
+        b'i',
+        b'm',
+        b'e',
+        b'\'',
+        at.year[0],
+        at.year[1],
+        at.year[2],
+        at.year[3],
+        b'-',
+        at.month[0],
+        at.month[1],
+        b'-',
+        at.day[0],
+        at.day[1],
+        b'T',
+        at.hour[0],
+        at.hour[1],
+        b'%',
+        b'3',
+        b'A',
+        at.minute[0],
+        at.minute[1],
+        b'%',
+        b'3',
+        b'A',
+        at.second[0],
+        at.second[1],
+        b'.',
+        at.fraction[0],
+        at.fraction[1],
+        at.fraction[2],
+        at.fraction[3],
+        at.fraction[4],
+        at.fraction[5],
+        at.fraction[6],
+        b'Z',
+        b'\'',
+        b'"',
+    ]
+}
+
+/// The last two digits of a number.
+#[tactic(auto, unfolding(crate::specs::Moments::last_digits))]
+fn two_digits(number: u64) -> [u8; 2]
+    ensures { result ≡ last_digits 2 number }
+{
+    [digit(number / 10), digit(number)]
+}
+
+/// The last four digits of a number.
+#[tactic(auto, unfolding(crate::specs::Moments::last_digits))]
+fn four_digits(number: u64) -> [u8; 4]
+    ensures { result ≡ last_digits 4 number }
+{
+    let tens = number / 10;
+    let hundreds = tens / 10;
+    [
+        digit(hundreds / 10),
+        digit(hundreds),
+        digit(tens),
+        digit(number),
+    ]
+}
+
+/// The last seven digits of a number.
+#[tactic(auto, unfolding(crate::specs::Moments::last_digits))]
+fn seven_digits(number: u64) -> [u8; 7]
+    ensures { result ≡ last_digits 7 number }
+{
+    let thousands = number / 10 / 10 / 10;
+    let [a, b, c, d] = four_digits(thousands);
+    let hundreds = number / 10 / 10;
+    [
+        a,
+        b,
+        c,
+        d,
+        digit(hundreds),
+        digit(number / 10),
+        digit(number),
+    ]
+}
+
+/// The last digit of a number.
+fn digit(number: u64) -> u8
+    ensures { result ≡ 48 + number % 10 }
+{
+    b'0' + (number % 10) as u8
 }
 
 /// The tick of a text that gives a moment, with `colon` for each colon.

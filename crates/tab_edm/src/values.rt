@@ -2,12 +2,13 @@
 //! "Understanding the Table service data model", "Property types" (OData 3.0, part "Primitive data types"), and
 //! names by Unicode Standard Annex 31.
 
-ghost use Rattle.std.specs.Prelude.{◌≡◌, ◌≤◌, ◌+◌, ◌*◌, IfOk, IsTrue, None, chars};
+ghost use Rattle.std.specs.Prelude.{◌≡◌, ◌≤◌, ◌<◌, ◌+◌, ◌*◌, ◌^◌, length, All, IsUtf8, FitsSigned, IfOk, IsTrue, None, chars};
 ghost use Rattle.std.specs.Option.{option_map};
+ghost use Rattle.std.specs.Int.{w32, w64};
 ghost use Rattle.std.specs.List.{list_all};
 ghost use Rattle.unicode_ident.specs.Ident.{is_xid_continue};
 ghost use Rattle.tab_edm.specs.declared.values.TheConstants.{MOST_NAME_CHARACTERS, MOST_BINARY_BYTES};
-ghost use Rattle.tab_edm.specs.Values.{begins_name, is_valid_name, is_small, value_size, property_size};
+ghost use Rattle.tab_edm.specs.Values.{IsValue, IsProperty, begins_name, is_valid_name, is_small, value_size, property_size};
 ghost use Rattle.tab_edm.specs.Entities.{property_refusal, refused};
 
 use crate::texts::{char_count, unit_count};
@@ -16,13 +17,13 @@ use std::alloc::Global;
 use unicode_ident::{is_xid_continue, is_xid_start};
 
 /// The most UTF-16 code units of a text.
-const MOST_TEXT_UNITS: usize = 32_768;
+pub const MOST_TEXT_UNITS: usize = 32_768;
 
 /// The most bytes of a binary value.
-const MOST_BINARY_BYTES: usize = 65_536;
+pub const MOST_BINARY_BYTES: usize = 65_536;
 
 /// The most characters of a property's name.
-const MOST_NAME_CHARACTERS: usize = 255;
+pub const MOST_NAME_CHARACTERS: usize = 255;
 
 /// The value of a property, in one of the seven kinds that are served.
 #[derive(Debug, Drop)]
@@ -57,6 +58,21 @@ impl Value {
             Value::Guid(guid) => Value::Guid(*guid),
             Value::Bytes(bytes) => Value::Bytes(bytes.try_copy(alloc)?),
         })
+    }
+
+    /// What it is by its type. The walk over a Guid reads its bytes alone, and is compiled away.
+    fn typed(&self)
+        ensures { IsValue self.now }
+    {
+        match self {
+            Value::Text(text) => read_text(text.as_str()),
+            Value::Flag(_) => (),
+            Value::Int32(number) => read_int32(*number),
+            Value::Int64(number) => read_int64(*number),
+            Value::Moment(tick) => read_tick(*tick),
+            Value::Guid(guid) => read_guid(guid),
+            Value::Bytes(bytes) => read_bytes(bytes.as_slice()),
+        }
     }
 
     /// Whether it is within the limit of its kind.
@@ -110,8 +126,10 @@ impl Property {
     /// The first limit that it breaks.
     #[tactic(auto, unfolding(crate::specs::Entities::property_refusal))]
     pub(crate) fn fault(&self) -> Option<PropertyFault>
-        ensures { property_refusal self.now ≡ option_map (λ fault. refused fault self.now) result }
+        ensures fault { property_refusal self.now ≡ option_map (λ fault. refused fault self.now) result }
+        ensures typed { IsProperty self.now }
     {
+        self.value.typed();
         let name = self.name.as_str();
         if !is_identifier(name) {
             Some(PropertyFault::NameInvalid)
@@ -141,6 +159,35 @@ pub enum PropertyFault {
     NameInvalid,
     NameTooLong,
     ValueTooLarge,
+}
+
+fn read_text(_text: &str)
+    ensures { IsUtf8 _text.now }
+{}
+
+fn read_int32(_number: i32)
+    ensures { FitsSigned w32 _number }
+{}
+
+fn read_int64(_number: i64)
+    ensures { FitsSigned w64 _number }
+{}
+
+fn read_tick(_tick: u64)
+    ensures { _tick < 2 ^ 64 }
+{}
+
+fn read_bytes(_bytes: &[u8])
+    ensures { All (λ b. b < 256) _bytes.now }
+{}
+
+fn read_guid(guid: &[u8; 16])
+    ensures long { length guid.now ≡ 16 }
+    ensures fit { All (λ b. b < 256) guid.now }
+{
+    for at in 0..16 {
+        let _ = guid[at];
+    }
 }
 
 /// Whether a name is an identifier of Unicode Standard Annex 31, or begins with `_` and goes on as one.

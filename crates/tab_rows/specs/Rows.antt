@@ -1,10 +1,12 @@
 -- Rows, and lists of rows in the order of their keys.
-use Rattle.std.specs.Prelude.{◌≡◌, ℕ, ◌≤◌, List, ◌++◌, ◌∷◌, length, Bool, not, ◌||◌, filter, find, AllPairs, IsTrue, Option}
+use Rattle.std.specs.Prelude.{◌≡◌, ℕ, ◌≤◌, List, ◌++◌, ◌∷◌, length, Bool, not, ◌||◌, filter, find, All, AllPairs, IsTrue, Option}
 use Rattle.std.specs.Ordering.{is_lt, nat_cmp, ordering_then}
 use Rattle.tab_keys.specs.KeyTexts.{units_of}
+use Rattle.tab_keys.specs.Keys.{IsKey}
 use Rattle.tab_keys.specs.Order.{text_cmp, key_lt, same_key}
 use Rattle.tab_keys.specs.declared.keys.Key.{Key}
-use Rattle.tab_edm.specs.Entities.{EntityView}
+use Rattle.tab_edm.specs.Values.{IsProperty}
+use Rattle.tab_edm.specs.Entities.{EntityView, IsEntity}
 use Rattle.tab_edm.specs.declared.TheConstants.{GREATEST}
 
 -- what contracts see of a row
@@ -18,6 +20,13 @@ pub record IsRow (key : Key) (entity : EntityView) (tick : ℕ) : Type 0 where
   pub in_time : tick ≤ GREATEST
   pub pk_units : entity.pk_units ≡ length (units_of key.pk)
   pub rk_units : entity.rk_units ≡ length (units_of key.rk)
+
+-- what each kept row of the program is: its entity was made for its key, within the limits of entities
+pub record IsKept (kept : RowView) : Type 0 where
+  pub key : IsKey kept.key
+  pub row : IsRow kept.key kept.entity kept.tick
+  pub entity : IsEntity kept.entity.pk_units kept.entity.rk_units kept.entity.properties
+  pub properties : All IsProperty kept.entity.properties
 
 -- what contracts see of ordered rows: the rows, and how many more can be put without memory
 pub record RowsView : Type 0 where

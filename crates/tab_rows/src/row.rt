@@ -1,6 +1,7 @@
 //! Kept rows.
 
-ghost use Rattle.std.specs.Prelude.{◌≡◌, IfOk};
+ghost use Rattle.std.specs.Prelude.{◌≡◌, ◌<◌, ◌^◌, IfOk};
+ghost use Rattle.tab_rows.specs.Rows.{IsKept};
 
 use std::alloc::Global;
 use std::marker::Model;
@@ -36,4 +37,18 @@ impl Row {
             tick: self.tick,
         })
     }
+
+    /// What each row of the program is. It does nothing.
+    pub fn kept(&self)
+        ensures { IsKept self.now }
+    {
+        read_table(self.key.table);
+        let _ = self.key.pk.as_str();
+        let _ = self.key.rk.as_str();
+        let _ = self.entity.properties();
+    }
 }
+
+fn read_table(_table: u64)
+    ensures { _table < 2 ^ 64 }
+{}

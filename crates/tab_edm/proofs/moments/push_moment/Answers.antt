@@ -1,7 +1,5 @@
-use Rattle.std.proofs.Common.{rules, append_assoc}
-use Rattle.tab_edm.specs.Moments.{moment_with, text_of_fraction}
+use Rattle.tab_edm.proofs.AsciiMoments.{utf8_moment}
 use Rattle.tab_edm.proofs.moments.push_moment.Goals as goal
 
-pub returns : goal.returns
-unfolding moment_with text_of_fraction
-returns c = search (rules, append_assoc)
+pub from_utf8_unchecked-requires : goal.from_utf8_unchecked-requires
+from_utf8_unchecked-requires c = rw c.moment_bytes-moment.ensures (utf8_moment c.args.tick)

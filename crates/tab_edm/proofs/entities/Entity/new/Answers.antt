@@ -16,4 +16,4 @@ from_sorted-requires-clause-in_time c =
 
 pub returns-clause-exact : goal.returns-clause-exact
 returns-clause-exact c =
-    λ sorted moved rising. c.from_sorted.ensures ∙ ap (made c.args.pk_units c.args.rk_units) (one_rising _ _ sorted c.sorted_by_name.ensures.permutation moved c.sorted_by_name.ensures.rising rising)
+    λ given sorted moved rising. c.from_sorted.ensures given ∙ ap (made c.args.pk_units c.args.rk_units) (one_rising _ _ sorted c.sorted_by_name.ensures.permutation moved c.sorted_by_name.ensures.rising rising)
