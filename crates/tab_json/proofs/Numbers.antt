@@ -8,11 +8,11 @@ use Rattle.std.specs.Str.Parse.{ParsesSigned, signed_digits_value}
 use Rattle.tab_json.proofs.Options.{none_unless}
 use Rattle.tab_json.specs.Values.{int64_of, fits_64_bits}
 
-pub fits_from : (z : ℤ) → fits_64_bits z ≡ true → FitsSigned w64 z
+fits_from : (z : ℤ) → fits_64_bits z ≡ true → FitsSigned w64 z
 fits_from (pos n) e = record { sfits = ltb-true n (2 ^ 63) e }
 fits_from (negsuc n) e = record { sfits = ltb-true n (2 ^ 63) e }
 
-fits_to : (z : ℤ) → FitsSigned w64 z → fits_64_bits z ≡ true
+pub fits_to : (z : ℤ) → FitsSigned w64 z → fits_64_bits z ≡ true
 fits_to (pos n) f = lt-ltb n (2 ^ 63) f.sfits
 fits_to (negsuc n) f = lt-ltb n (2 ^ 63) f.sfits
 

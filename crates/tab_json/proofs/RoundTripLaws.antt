@@ -19,7 +19,7 @@ use Rattle.serde_json.proofs.Views.{get_member-put, get_member-put_other}
 use Rattle.tab_keys.specs.KeyTexts.{key_refusal}
 use Rattle.tab_edm.specs.Entities.{IsRising, property_refusal, entity_refusal, first_refusal, name_lt}
 use Rattle.tab_edm.specs.Moments.{text_of_moment, text_of_etag}
-use Rattle.tab_edm.specs.Values.{is_reserved}
+use Rattle.tab_edm.specs.Values.{IsValue, IsProperty, IsInTime, is_reserved}
 use Rattle.tab_edm.specs.declared.values.Value.{Value}
 use Rattle.tab_edm.specs.declared.values.Value.TheVariants.{Text, Flag, Int32, Int64, Moment, Guid, Bytes}
 use Rattle.tab_edm.specs.declared.values.Property.{Property}
@@ -27,9 +27,10 @@ use Rattle.tab_edm.specs.declared.entities.EdmRefused.{EdmRefused}
 use Rattle.tab_edm.proofs.Refusals.{each_allowed}
 use Rattle.tab_rows.proofs.Lists.{AllPairs-head, AllPairs-tail}
 use Rattle.tab_json.specs.Bodies.{is_ignored, annotation_of, annotated_by, is_given, text_of, value_of, meaning_by, meaning_of, with_meaning, no_entity, entity_in, json_in, of_object, entity_body}
-use Rattle.tab_json.specs.Entities.{VersionView, value_data, annotated_type, annotation, property_members, key_members, etag, entity_members, metadata, metadata_address, entity_data, entity_json}
+use Rattle.tab_rows.specs.Rows.{RowView, IsKept}
+use Rattle.tab_json.specs.Entities.{VersionView, version_of, value_data, annotated_type, annotation, property_members, key_members, etag, entity_members, metadata, metadata_address, entity_data, entity_json}
 use Rattle.tab_json.specs.Objects.{Member, with_members, object_of}
-use Rattle.tab_json.specs.RoundTrips.{IsValue, IsProperty, IsKept, whole_form, IsReadBack}
+use Rattle.tab_json.specs.RoundTrips.{IsVersion, whole_form, IsReadBack}
 use Rattle.tab_json.specs.Values.{named_type}
 use Rattle.tab_json.specs.declared.bodies.BodyEntity.{BodyEntity}
 use Rattle.tab_json.specs.declared.bodies.JsonRefused.{JsonRefused}
@@ -114,6 +115,7 @@ record Fits (body : Data) (p : Property) : Type 0 where
   plain : IsPlainName p.name
   name : IsUtf8 p.name
   value : IsValue p.value
+  in_time : IsInTime p.value
   found : get (annotation_of p.name) body ≡ option_map string (annotated_type p.value)
 
 not_same : (a b : List ℕ) → a ≢ b → bytes_eq a b ≡ false
@@ -122,7 +124,7 @@ not_same a b apart = false_from_ne_true _ (λ same. apart ((bytes_eq-Decides a b
 means_property : (body : Data) (p : Property) → Fits body p → meaning_of body p.name (value_data p.value) ≡ Ok (Meaning.Property p)
 unfolding meaning_of value_of
 means_property body p fits =
-    rw (not_ignored p.name fits.plain, not_annotated p.name fits.plain, value_given p.value, not_same p.name (codes "PartitionKey") (not_own p.name (codes "PartitionKey") fits.plain refl), not_same p.name (codes "RowKey") (not_own p.name (codes "RowKey") fits.plain refl), fits.found, value_back p.value fits.value) refl
+    rw (not_ignored p.name fits.plain, not_annotated p.name fits.plain, value_given p.value, not_same p.name (codes "PartitionKey") (not_own p.name (codes "PartitionKey") fits.plain refl), not_same p.name (codes "RowKey") (not_own p.name (codes "RowKey") fits.plain refl), fits.found, value_back p.value fits.value fits.in_time) refl
 
 either_nothing : (a b : Bool) (r : Meant) → r ≡ Ok Meaning.Nothing → cond a (Ok Meaning.Nothing) r ≡ Ok Meaning.Nothing
 either_nothing true b r is = refl
@@ -441,6 +443,17 @@ point_apart own point n plain e = apart_by 46 own n point plain.no_point (sym e)
 fresh_more : (own k : List ℕ) (d : Data) (ms : Members) → IsSorted ms → Fresh k ms → bytes_eq k own ≡ false → Fresh own ms → Fresh own (put k d ms)
 fresh_more own k d ms sorted fresh other old = each_put (λ l e. l ≢ own) k d ms sorted fresh (literals_apart k own other) old
 
+-- what is kept is a version
+pub kept_version : (row : RowView) → IsKept row → IsVersion (version_of row)
+kept_version row kept = record {
+  pk_units = row.entity.pk_units;
+  rk_units = row.entity.rk_units;
+  pk = kept.key.pk;
+  rk = kept.key.rk;
+  entity = kept.entity;
+  properties = kept.properties;
+}
+
 module _ (account name : List ℕ) (version : VersionView) where
   of_properties : Members
   of_properties = with_members no_members (flat_map its_members version.properties)
@@ -485,7 +498,7 @@ module _ (account name : List ℕ) (version : VersionView) where
       (put_apart q (codes "RowKey") (string version.rk) with_pk found (apart_by 64 q (codes "RowKey") at refl)
       (put_apart q (codes "PartitionKey") (string version.pk) of_properties found (apart_by 64 q (codes "PartitionKey") at refl) is))))
 
-  module _ (kept : IsKept version) (account_text : IsUtf8 account) (name_text : IsUtf8 name) where
+  module _ (kept : IsVersion version) (account_text : IsUtf8 account) (name_text : IsUtf8 name) where
     properties : List Property
     properties = version.properties
 
@@ -516,14 +529,14 @@ module _ (account name : List ℕ) (version : VersionView) where
     unfolding of_properties
     found = all_found version.properties no_members plain kept.entity.rising (none_there version.properties)
 
-    fits_all : (ps : List Property) → AllByRecursion (λ p. IsPlainName p.name) ps → AllByRecursion IsProperty ps → AllByRecursion (λ p. get_member (annotation_of p.name) of_properties ≡ option_map string (annotated_type p.value)) ps
+    fits_all : (ps : List Property) → AllByRecursion (λ p. IsPlainName p.name) ps → AllByRecursion IsProperty ps → AllByRecursion (λ p. IsInTime p.value) ps → AllByRecursion (λ p. get_member (annotation_of p.name) of_properties ≡ option_map string (annotated_type p.value)) ps
         → AllByRecursion (Fits body) ps
-    fits_all [] plains real there = tt
-    fits_all (p ∷ ps) plains real there =
-        (record { plain = plains.0; name = real.0.name; value = real.0.value; found = found_last (annotation_of p.name) (option_map string (annotated_type p.value)) (annotation_has_at p.name) there.0 }, fits_all ps plains.1 real.1 there.1)
+    fits_all [] plains real timely there = tt
+    fits_all (p ∷ ps) plains real timely there =
+        (record { plain = plains.0; name = real.0.name; value = real.0.value; in_time = timely.0; found = found_last (annotation_of p.name) (option_map string (annotated_type p.value)) (annotation_has_at p.name) there.0 }, fits_all ps plains.1 real.1 timely.1 there.1)
 
     fits : AllByRecursion (Fits body) version.properties
-    fits = fits_all version.properties plain (one_by_one IsProperty version.properties kept.properties) found
+    fits = fits_all version.properties plain (one_by_one IsProperty version.properties kept.properties) (one_by_one (λ p. IsInTime p.value) version.properties kept.entity.in_time) found
 
     nothing_came : (ps : List Property) → AllByRecursion (λ q. Each (Came body (λ n. Before n q.name)) no_members) ps
     nothing_came [] = tt

@@ -17,14 +17,13 @@ use base64::engine::general_purpose::STANDARD;
 use json::{Token, Writer};
 use std::alloc::{AllocError, Global};
 use std::marker::Model;
-use tab_edm::{GREATEST, Value, etag_text, moment_text};
+use tab_edm::{GREATEST, Value, push_etag, push_moment};
 use tab_keys::Memory;
 use uuid::Uuid;
 
 /// A text on its way, and a second one in which a part of it is made.
 #[derive(Drop)]
 pub(crate) struct JsonText {
-    alloc: Global,
     out: Writer,
     scratch: String,
 }
@@ -48,7 +47,6 @@ impl JsonText {
         ensures { IfOk result (λ text. text ≡ []) }
     {
         Ok(JsonText {
-            alloc,
             out: Writer::new(Vec::with_capacity(alloc, capacity)?),
             scratch: String::new(alloc),
         })
@@ -145,10 +143,11 @@ impl JsonText {
         requires { tick ≤ GREATEST }
         ensures { OnOk result (self.new ≡ self.old ++ string (text_of_moment tick) ∷ []) }
     {
-        let Ok(text) = moment_text(self.alloc, tick) else {
+        self.scratch.clear();
+        let Ok(()) = push_moment(&mut self.scratch, tick) else {
             return Err(Memory);
         };
-        self.out.string(text.as_str())?;
+        self.out.string(self.scratch.as_str())?;
         Ok(())
     }
 
@@ -156,10 +155,11 @@ impl JsonText {
         requires { tick ≤ GREATEST }
         ensures { OnOk result (self.new ≡ self.old ++ string (text_of_etag tick) ∷ []) }
     {
-        let Ok(text) = etag_text(self.alloc, tick) else {
+        self.scratch.clear();
+        let Ok(()) = push_etag(&mut self.scratch, tick) else {
             return Err(Memory);
         };
-        self.out.string(text.as_str())?;
+        self.out.string(self.scratch.as_str())?;
         Ok(())
     }
 
