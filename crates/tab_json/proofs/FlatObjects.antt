@@ -220,7 +220,7 @@ atom_read (array ds) is = absurd is
 atom_read (object ms) is = absurd is
 
 -- the members put one after another
-abbrev puts : Members → Members → Members
+abbrev pub puts : Members → Members → Members
 puts no_members found = found
 puts (member k d ms) found = puts ms (put k d found)
 
@@ -243,10 +243,10 @@ then_none no_members = refl
 then_none (member k d a) = ap (member k d) (then_none a)
 
 -- all found names are before all others
-abbrev Under : Members → Members → Type 0
+abbrev pub Under : Members → Members → Type 0
 Under found = Each (λ k d. Below k found)
 
-puts_behind : (ms found : Members) → IsSorted ms → Under found ms → puts ms found ≡ then found ms
+pub puts_behind : (ms found : Members) → IsSorted ms → Under found ms → puts ms found ≡ then found ms
 puts_behind no_members found sorted under = sym (then_none found)
 puts_behind (member k d ms) found sorted under =
     let here = put_behind k d found under.0 in
@@ -257,7 +257,7 @@ puts_behind (member k d ms) found sorted under =
     more no_members high low = tt
     more (member l e xs) high low = (each_joined (λ m f. Before m l) found (member k d no_members) low.0 (high.0, tt), more xs high.1 low.1)
 
-under_none : (ms : Members) → Under no_members ms
+pub under_none : (ms : Members) → Under no_members ms
 under_none no_members = tt
 under_none (member k d ms) = (tt, under_none ms)
 

@@ -13,3 +13,4 @@ pub mod ValueTrips
 pub mod RoundTripLaws
 mod SlotLemmas
 mod WrittenLemmas
+mod LentLemmas

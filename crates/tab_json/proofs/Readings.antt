@@ -1,9 +1,7 @@
 -- Bodies, member by member.
-use Rattle.std.proofs.Common.{◌≡◌, ◌≢◌, ℕ, Equal, true≢false, List, [], ◌∷◌, ◌++◌, Bool, true, false, ◌||◌, cond, IsTrue, IsFalse, Option, Some, None, is_some, Result, Ok, Err, fold, bytes_eq, codes, String, Global, Less, string_bytes, nat_cmp, string_cmp, refl, sym, ap, ◌∙◌, arith, append_assoc, append-nil}
+use Rattle.std.proofs.Common.{◌≡◌, ◌≢◌, ℕ, Equal, true≢false, List, [], ◌∷◌, ◌++◌, Bool, true, false, ◌||◌, cond, IsTrue, IsFalse, Option, Some, None, is_some, Result, Ok, Err, fold, bytes_eq, codes, nat_cmp, refl, sym, ap, ◌∙◌, arith, append_assoc, append-nil}
 use Rattle.std.specs.Bool.{⊤}
-use Rattle.std.specs.List.{All, AllPairs, AllByRecursion}
-use Rattle.std.specs.List.Sorted.{IsStrictlySortedBy}
-use Rattle.std.specs.Map.{keys_of}
+use Rattle.std.specs.List.{All, AllPairs}
 use Rattle.std.specs.Ordering.{is_lt}
 use Rattle.std.specs.Cmp.Lexicographic.{slice_cmp}
 use Rattle.std.proofs.lemmas.Bool.{or_from, or_parts}
@@ -11,8 +9,6 @@ use Rattle.std.proofs.lemmas.Cmp.{nat_list_cmp_total, tied_itself}
 use Rattle.std.proofs.lemmas.List.Elements.{All-cons, All-nil}
 use Rattle.std.proofs.lemmas.List.Kept.{AllPairs-cons}
 use Rattle.serde_json.specs.Data.{Data, Members, no_members, member}
-use Rattle.serde_json.specs.View.{members_view}
-use Rattle.serde_json.specs.declared.value.Value.{Value as Json}
 use Rattle.tab_edm.specs.Entities.{name_lt, IsRising}
 use Rattle.tab_edm.specs.Values.{is_reserved}
 use Rattle.tab_edm.specs.declared.values.Value.{Value}
@@ -21,6 +17,7 @@ use Rattle.tab_json.specs.Bodies.{is_ignored, annotated_by, is_null, is_given, t
 use Rattle.tab_json.specs.declared.members_read.Meaning.{Meaning}
 use Rattle.tab_json.specs.declared.bodies.BodyEntity.{BodyEntity}
 use Rattle.tab_json.specs.declared.bodies.JsonRefused.{JsonRefused}
+use Rattle.tab_json.proofs.FlatObjects.{Before, Each, each_weaker, Above, IsSorted}
 
 -- ---- the members that are left
 
@@ -127,9 +124,6 @@ named body name value property e = named_by body name value property (is_ignored
 
 -- ---- the properties of members in order
 
-abbrev Entries : Type 0
-Entries = List (String Global × Json)
-
 record FirstMeans (first : Result Meaning JsonRefused) (later : Result (List Meaning) JsonRefused) (all : List Meaning) : Type 0 where
   meaning : Meaning
   more : List Meaning
@@ -163,19 +157,18 @@ one_of P body name value (Meaning.RowKey key) rest means holds later = later
 one_of P body name value (Meaning.Property property) rest means holds later =
     let is = named body name value property means in All-cons (IsOf P) property rest (rw (is.0) (holds, is.1)) later
 
-all_of : (P : List ℕ → Type 0) (body : Data) (es : Entries) (all : List Meaning) → all_or_refusal (meanings body (members_view es)) ≡ Ok all → AllByRecursion (λ key. P (string_bytes key)) (keys_of es) → All (IsOf P) (properties_of all)
+all_of : (P : List ℕ → Type 0) (body : Data) (ms : Members) (all : List Meaning) → all_or_refusal (meanings body ms) ≡ Ok all → Each (λ k d. P k) ms → All (IsOf P) (properties_of all)
 unfolding properties_of
-all_of P body [] all e holds = rw (no_meanings body all e) (All-nil (IsOf P))
-all_of P body (entry ∷ es) all e holds =
-    let first = member_means body _ _ (members_view es) all e in
-    rw (first.all_is) (one_of P body _ _ first.meaning _ first.first_is holds.0 (all_of P body es first.more first.later_is holds.1))
+all_of P body no_members all e holds = rw (no_meanings body all e) (All-nil (IsOf P))
+all_of P body (member k d ms) all e holds =
+    let first = member_means body k d ms all e in
+    rw (first.all_is) (one_of P body k d first.meaning _ first.first_is holds.0 (all_of P body ms first.more first.later_is holds.1))
 
 abbrev IsBelow : List ℕ → List ℕ → Type 0
 IsBelow a b = IsTrue (is_lt (slice_cmp nat_cmp a b))
 
-below : (key : String Global) (keys : List (String Global)) → AllByRecursion (λ other. string_cmp key other ≡ Less) keys → AllByRecursion (λ other. IsBelow (string_bytes key) (string_bytes other)) keys
-below key [] h = tt
-below key (other ∷ keys) h = (ap is_lt (h.0), below key keys h.1)
+below : (k : List ℕ) (ms : Members) → Above k ms → Each (λ l e. IsBelow k l) ms
+below k ms above = each_weaker (λ l e. Before k l) (λ l e. IsBelow k l) (λ l e h. ap is_lt h) ms above
 
 one_rises : (body : Data) (name : List ℕ) (value : Data) (meaning : Meaning) (rest : List Property) → meaning_of body name value ≡ Ok meaning → All (IsOf (IsBelow name)) rest → IsRising rest → IsRising (property_in meaning ++ rest)
 unfolding property_in IsOf
@@ -186,12 +179,12 @@ one_rises body name value (Meaning.Property property) rest means later rising =
     let is = named body name value property means in
     AllPairs-cons (λ a b. IsTrue (name_lt a b)) property rest (λ k d within. rw (is.0) ((later k d within).0)) rising
 
-all_rise : (body : Data) (es : Entries) (all : List Meaning) → all_or_refusal (meanings body (members_view es)) ≡ Ok all → IsStrictlySortedBy string_cmp (keys_of es) → IsRising (properties_of all)
-unfolding properties_of IsStrictlySortedBy
-all_rise body [] all e sorted = rw (no_meanings body all e) (λ i j d lt within. absurd (omega arith))
-all_rise body (entry ∷ es) all e sorted =
-    let first = member_means body _ _ (members_view es) all e in
-    rw (first.all_is) (one_rises body _ _ first.meaning _ first.first_is (all_of (IsBelow (string_bytes entry.0)) body es first.more first.later_is (below entry.0 (keys_of es) sorted.0)) (all_rise body es first.more first.later_is sorted.1))
+all_rise : (body : Data) (ms : Members) (all : List Meaning) → all_or_refusal (meanings body ms) ≡ Ok all → IsSorted ms → IsRising (properties_of all)
+unfolding properties_of
+all_rise body no_members all e sorted = rw (no_meanings body all e) (λ i j d lt within. absurd (omega arith))
+all_rise body (member k d ms) all e sorted =
+    let first = member_means body k d ms all e in
+    rw (first.all_is) (one_rises body k d first.meaning _ first.first_is (all_of (IsBelow k) body ms first.more first.later_is (below k ms sorted.0)) (all_rise body ms first.more first.later_is sorted.1))
 
 -- ---- the entity of members in order
 
@@ -205,19 +198,19 @@ from_meanings (Ok all) entity e =
     let is : fold with_meaning no_entity all ≡ entity = cc in record { all = all; read_is = refl; properties_are = ap (λ (b : BodyEntity). b.properties) (sym is) ∙ with_properties no_entity all }
 from_meanings (Err why) entity e = absurd (cc)
 
-pub entity_rises : (body : Data) (es : Entries) (entity : BodyEntity) → entity_in body (members_view es) ≡ Ok entity → IsStrictlySortedBy string_cmp (keys_of es) → IsRising entity.properties
+pub entity_rises : (body : Data) (ms : Members) (entity : BodyEntity) → entity_in body ms ≡ Ok entity → IsSorted ms → IsRising entity.properties
 unfolding entity_in
-entity_rises body es entity e sorted = let from = from_meanings _ entity e in rw (from.properties_are) (all_rise body es from.all from.read_is sorted)
+entity_rises body ms entity e sorted = let from = from_meanings _ entity e in rw (from.properties_are) (all_rise body ms from.all from.read_is sorted)
 
-anything : (keys : List (String Global)) → AllByRecursion (λ key. ⊤) keys
-anything [] = tt
-anything (key ∷ keys) = (tt, anything keys)
+anything : (ms : Members) → Each (λ k d. ⊤) ms
+anything no_members = tt
+anything (member k d ms) = (tt, anything ms)
 
-pub entity_unreserved : (body : Data) (es : Entries) (entity : BodyEntity) → entity_in body (members_view es) ≡ Ok entity → All (λ p. IsFalse (is_reserved p.name)) entity.properties
+pub entity_unreserved : (body : Data) (ms : Members) (entity : BodyEntity) → entity_in body ms ≡ Ok entity → All (λ p. IsFalse (is_reserved p.name)) entity.properties
 unfolding entity_in IsOf
-entity_unreserved body es entity e =
+entity_unreserved body ms entity e =
     let from = from_meanings _ entity e in
-    let every = all_of (λ _. ⊤) body es from.all from.read_is (anything (keys_of es)) in rw (from.properties_are) (λ k d within. (every k d within).1)
+    let every = all_of (λ _. ⊤) body ms from.all from.read_is (anything ms) in rw (from.properties_are) (λ k d within. (every k d within).1)
 
 -- ---- names that rise
 

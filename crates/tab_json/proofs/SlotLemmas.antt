@@ -1,5 +1,5 @@
 -- A member that is put at the place of its name.
-use Rattle.std.proofs.Common.{◌≡◌, ℕ, zero, suc, ◌+◌, ◌-◌, ◌<◌, ◌≤◌, ⊎_elim, List, [], ◌∷◌, ◌++◌, Ok, Err, Some, true, true≢false, Result, MatchResult, length, get_or, set, take, drop, Ordering, Less, Equal, Greater, nat_cmp, refl, sym, ap, ◌∙◌, subst, arith}
+use Rattle.std.proofs.Common.{◌≡◌, ℕ, zero, suc, ◌+◌, ◌-◌, ◌<◌, ◌≤◌, ⊎_elim, List, [], ◌∷◌, ◌++◌, Ok, Err, Some, None, true, true≢false, Result, MatchResult, length, get_or, set, take, drop, Ordering, Less, Equal, Greater, nat_cmp, refl, sym, ap, ◌∙◌, subst, arith}
 use Rattle.std.specs.Prelude.{All, AllPairs, insert, slice_get}
 use Rattle.std.specs.Cmp.Lexicographic.{slice_cmp}
 use Rattle.std.specs.List.{AllWithin, HoldsAt}
@@ -13,8 +13,10 @@ use Rattle.std.proofs.lemmas.List.Kept.{AllPairs-cons}
 use Rattle.std.proofs.lemmas.List.Sorted.{searchable_from_sorted}
 use Rattle.std.proofs.lemmas.Option.{get_or_from_slice_get}
 use Rattle.serde_json.specs.Data.{Data, Members, member, put}
+use Rattle.serde_json.specs.Find.{get_member}
 use Rattle.tab_json.specs.declared.slots.Name.{Name}
 use Rattle.tab_json.specs.declared.slots.Slot.{Slot}
+use Rattle.tab_json.proofs.FlatObjects.{Above, IsSorted}
 use Rattle.tab_json.specs.Slots.{name_text, name_cmp, slot_members, AreRising, StandsAt, BelongsAt}
 
 -- ---- names
@@ -84,16 +86,10 @@ module _ {X : Type 0} (P : X → Type 0) (xs : List X) (n : ℕ) where
 -- ---- slots whose names rise
 
 module _ {V : Type 0} where
-  abbrev Below : Name → Slot V → Type 0
-  Below name other = name_cmp other.name name ≡ Less
-
-  abbrev Above : Name → Slot V → Type 0
-  Above name other = name_cmp name other.name ≡ Less
-
   pub no_slots : AreRising {V = V} []
   no_slots = λ i j d below within. absurd (omega (arith, within))
 
-  rising_between : (slot : Slot V) (front back : List (Slot V)) → AreRising front → AreRising back → All (Below slot.name) front → All (Above slot.name) back
+  rising_between : (slot : Slot V) (front back : List (Slot V)) → AreRising front → AreRising back → All (λ (other : Slot V). name_cmp other.name slot.name ≡ Less) front → All (λ (other : Slot V). name_cmp slot.name other.name ≡ Less) back
       → AreRising (front ++ slot ∷ back)
   rising_between slot front back hf hb below above =
       let R = λ (a b : Slot V). name_cmp a.name b.name ≡ Less in
@@ -238,3 +234,49 @@ module _ {V : Type 0} (data_of : V → Data) where
       ∙ put_behind name value (take place slots) (slot_members data_of (h.found ∷ drop (place + 1) slots)) h.below
       ∙ ap (onto (take place slots)) (put_over name value h.found (drop (place + 1) slots) h.same)
       ∙ sym (slot_members-append (take place slots) (revalued h.found value ∷ drop (place + 1) slots)))
+
+  -- what is found behind members with lesser names
+  found_behind : (name : Name) (front : List (Slot V)) (ms : Members) → All (λ (other : Slot V). name_cmp other.name name ≡ Less) front
+      → get_member (name_text name) (onto front ms) ≡ get_member (name_text name) ms
+  found_behind name [] ms h = refl
+  found_behind name (s ∷ front) ms h =
+      let P = λ (other : Slot V). name_cmp other.name name ≡ Less in
+      let above : slice_cmp nat_cmp (name_text name) (name_text s.name) ≡ Greater = greater_from_less s.name name (All-head P s front h) in
+      rw above (found_behind name front ms (All-tail P s front h))
+
+  -- nothing is found before members with greater names
+  found_before : (name : Name) (back : List (Slot V)) → All (λ (other : Slot V). name_cmp name other.name ≡ Less) back → get_member (name_text name) (slot_members data_of back) ≡ None
+  found_before name [] h = refl
+  found_before name (s ∷ back) h =
+      let P = λ (other : Slot V). name_cmp name other.name ≡ Less in
+      let first : slice_cmp nat_cmp (name_text name) (name_text s.name) ≡ Less = All-head P s back h in
+      rw first (found_before name back (All-tail P s back h))
+
+  found_at : (name : Name) (s : Slot V) (back : List (Slot V)) → name_cmp s.name name ≡ Equal → get_member (name_text name) (slot_members data_of (s ∷ back)) ≡ Some (data_of s.value)
+  found_at name s back h =
+      let same : slice_cmp nat_cmp (name_text name) (name_text s.name) ≡ Equal = same_back s.name name h in
+      rw same refl
+
+  pub get_stands : (slots : List (Slot V)) (name : Name) (place : ℕ) (h : StandsAt slots name place) → get_member (name_text name) (slot_members data_of slots) ≡ Some (data_of h.found.value)
+  get_stands slots name place h =
+      ap (λ xs. get_member (name_text name) (slot_members data_of xs)) (parts slots name place h)
+      ∙ ap (get_member (name_text name)) (slot_members-append (take place slots) (h.found ∷ drop (place + 1) slots))
+      ∙ found_behind name (take place slots) (slot_members data_of (h.found ∷ drop (place + 1) slots)) h.below
+      ∙ found_at name h.found (drop (place + 1) slots) h.same
+
+  pub get_belongs : (slots : List (Slot V)) (name : Name) (place : ℕ) → BelongsAt slots name place → get_member (name_text name) (slot_members data_of slots) ≡ None
+  get_belongs slots name place h =
+      ap (λ xs. get_member (name_text name) (slot_members data_of xs)) (sym (take-append-drop place slots))
+      ∙ ap (get_member (name_text name)) (slot_members-append (take place slots) (drop place slots))
+      ∙ found_behind name (take place slots) (slot_members data_of (drop place slots)) h.below
+      ∙ found_before name (drop place slots) h.above
+
+  above_slots : (s : Slot V) (slots : List (Slot V)) → All (λ (other : Slot V). name_cmp s.name other.name ≡ Less) slots → Above (name_text s.name) (slot_members data_of slots)
+  above_slots s [] h = tt
+  above_slots s (other ∷ slots) h =
+      let P = λ (other : Slot V). name_cmp s.name other.name ≡ Less in (All-head P other slots h, above_slots s slots (All-tail P other slots h))
+
+  pub sorted_slots : (slots : List (Slot V)) → AreRising slots → IsSorted (slot_members data_of slots)
+  sorted_slots [] rising = tt
+  sorted_slots (s ∷ slots) rising =
+      let R = λ (a b : Slot V). name_cmp a.name b.name ≡ Less in (above_slots s slots (AllPairs-head R s slots rising), sorted_slots slots (AllPairs-tail R s slots rising))

@@ -1,18 +1,29 @@
 //! The JSON bodies of requests (RFC 8259): an entity, or the name of a table.
-ghost use Rattle.std.specs.Prelude.{◌≡◌, ◌≢◌, MatchResult, Ok, Err, OnOk, Some, None, option_map, option_and_then, All, AllPairs, IsFalse, codes, string_bytes};
+ghost use Rattle.std.specs.Prelude.{◌≡◌, ◌≢◌, MatchResult, Ok, Err, OnOk, IfOk, IfSome, Some, None, option_map, option_and_then, All, AllPairs, IsFalse, codes, string_bytes};
 ghost use Rattle.serde_json.specs.Find.{as_str};
-ghost use Rattle.serde_json.specs.View.{view, members_view};
+ghost use Rattle.json.specs.Value.{value_view};
+ghost use Rattle.serde_json.specs.Read.{read, of_json};
+ghost use Rattle.serde_json.specs.View.{view};
 ghost use Rattle.tab_keys.specs.Results.{Gives};
 ghost use Rattle.tab_edm.specs.Entities.{IsRising};
 ghost use Rattle.tab_edm.specs.Values.{is_reserved, IsInTime};
-ghost use Rattle.tab_json.specs.Bodies.{json_in, no_entity, with_meaning, IsTimely, entity_in, entity_body, table_body};
+ghost use Rattle.tab_json.specs.Lent.{lent_data, lent_members, lent_object, IsPlain};
+ghost use Rattle.tab_json.specs.Slots.{name_text};
+ghost use Rattle.tab_json.specs.Bodies.{json_in, no_entity, with_meaning, IsTimely, meaning_of, entity_in, entity_body, table_body};
 
+use crate::lent::{Lent, LentMembers};
 use crate::members_read::{Meaning, meaning_of, value_type};
-use serde_json::{Map, Value as Json};
-use std::alloc::Global;
+use crate::slots::Slot;
+use json::{Reader, Scratch, Value};
+use serde_json::Value as Json;
+use std::alloc::{AllocError, Global};
 use std::marker::Model;
+use std::str;
 use tab_edm::{Memory, Property, TextValue};
 use tab_keys::{KeyRefused, KeyText};
+
+/// The arrays and objects that a body may nest: those that `serde_json` takes.
+const DEPTH: usize = 127;
 
 /// Why a body gives no entity or no table.
 #[derive(Debug, Drop)]
@@ -79,12 +90,86 @@ impl Properties {
 pub fn read_entity(alloc: Global, bytes: &[u8]) -> Result<BodyEntity, JsonRefused>
     ensures { Gives JsonRefused.Memory (λ body. body) result (entity_body bytes.now) }
 {
+    let mut scratch = Scratch::new(alloc);
+    match read_lent(alloc, bytes, &mut scratch) {
+        Ok(Some(members)) => read_members(alloc, &members),
+        Ok(None) => read_tree(alloc, bytes),
+        Err(_) => Err(JsonRefused::Memory),
+    }
+}
+
+/// The entity of a body that is refused, or in which not every member can be lent.
+#[tactic(auto, unfolding(crate::specs::Bodies::entity_body))]
+fn read_tree(alloc: Global, bytes: &[u8]) -> Result<BodyEntity, JsonRefused>
+    ensures { Gives JsonRefused.Memory (λ body. body) result (entity_body bytes.now) }
+{
     match read_json(alloc, bytes) {
         Ok(body) => match body.as_object() {
-            Some(members) => read_members(alloc, &body, members),
+            Some(members) => match LentMembers::of_tree(alloc, members) {
+                Ok(members) => read_members(alloc, &members),
+                Err(_) => Err(JsonRefused::Memory),
+            },
             None => Err(JsonRefused::NotObject),
         },
         Err(why) => Err(why),
+    }
+}
+
+/// The members of the object that bytes are, if each of them can be lent.
+fn read_lent<'a>(
+    alloc: Global,
+    bytes: &'a [u8],
+    scratch: &'a mut Scratch,
+) -> Result<Option<LentMembers<'a>>, AllocError>
+    ensures { IfOk result (λ found. IfSome found (λ members. json_in bytes.now ≡ Some (lent_object members))) }
+{
+    match str::from_utf8(bytes) {
+        Ok(text) => read_text(alloc, text, scratch),
+        Err(_) => Ok(None),
+    }
+}
+
+fn read_text<'a>(
+    alloc: Global,
+    text: &'a str,
+    scratch: &'a mut Scratch,
+) -> Result<Option<LentMembers<'a>>, AllocError>
+    ensures { IfOk result (λ found. IfSome found (λ members. read text.now ≡ Some (lent_object members))) }
+{
+    match read_value(alloc, text, scratch) {
+        Ok(Some(value)) => members_of(alloc, &value),
+        Ok(None) => Ok(None),
+        Err(why) => Err(why),
+    }
+}
+
+/// The members of an object that was read, if each of them can be lent.
+fn members_of<'a>(alloc: Global, value: &Value<'a>) -> Result<Option<LentMembers<'a>>, AllocError>
+    ensures { IfOk result (λ found. IfSome found (λ members. of_json (value_view value.now) ≡ Some (lent_object members))) }
+{
+    match value {
+        Value::Object(members) => LentMembers::of_read(alloc, members.as_slice()),
+        _ => Ok(None),
+    }
+}
+
+/// The JSON value that a text is, up to the range of its numbers.
+fn read_value<'a>(
+    alloc: Global,
+    text: &'a str,
+    scratch: &'a mut Scratch,
+) -> Result<Option<Value<'a>>, AllocError>
+    ensures { IfOk result (λ found. IfSome found (λ value. read text.now ≡ of_json (value_view value))) }
+{
+    let mut reader = Reader::new(text, scratch)?;
+    match Value::read(alloc, &mut reader, DEPTH) {
+        Ok(value) => {
+            if reader.next().is_some() {
+                return Ok(None);
+            }
+            Ok(Some(value))
+        }
+        Err(_) => Ok(None),
     }
 }
 
@@ -128,16 +213,15 @@ fn read_name(alloc: Global, name: Option<&Json>) -> Result<String, JsonRefused>
 }
 
 /// What the members of a body give of an entity.
-fn read_members(
-    alloc: Global,
-    body: &Json,
-    members: &Map<String, Json>,
-) -> Result<BodyEntity, JsonRefused>
-    ensures { Gives JsonRefused.Memory (λ entity. entity) result (entity_in (view body.now) (members_view members.now.entries)) }
+fn read_members(alloc: Global, body: &LentMembers) -> Result<BodyEntity, JsonRefused>
+    ensures { Gives JsonRefused.Memory (λ entity. entity) result (entity_in (lent_object body.now) (lent_members body.now)) }
 {
-    let mut reading = Reading::new(alloc);
-    for (name, value) in members {
-        match meaning_of(alloc, body, name.as_str(), value) {
+    let members = body.as_slice();
+    let Ok(mut reading) = Reading::with_capacity(alloc, members.len()) else {
+        return Err(JsonRefused::Memory);
+    };
+    for member in members {
+        match member_meaning(alloc, body, member) {
             Ok(meaning) => {
                 if reading.add(meaning).is_err() {
                     return Err(JsonRefused::Memory);
@@ -147,6 +231,19 @@ fn read_members(
         }
     }
     Ok(reading.finish())
+}
+
+/// What a member of a body means.
+fn member_meaning(
+    alloc: Global,
+    body: &LentMembers,
+    member: &Slot<Lent>,
+) -> Result<Meaning, JsonRefused>
+    requires { IsPlain member.now.name }
+    ensures meaning { Gives JsonRefused.Memory (λ meaning. meaning) result (meaning_of (lent_object body.now) (name_text member.now.name) (lent_data member.now.value)) }
+    ensures in_time { IfOk result IsTimely }
+{
+    meaning_of(alloc, body, member.name.front(), &member.value)
 }
 
 /// What the members that are read so far give of an entity.
@@ -170,14 +267,15 @@ impl Model for Reading {
 }
 
 impl Reading {
-    fn new(alloc: Global) -> Reading
-        ensures { result ≡ no_entity }
+    /// Nothing, with room for these many properties.
+    fn with_capacity(alloc: Global, capacity: usize) -> Result<Reading, AllocError>
+        ensures { IfOk result (λ reading. reading ≡ no_entity) }
     {
-        Reading {
+        Ok(Reading {
             pk: None,
             rk: None,
-            properties: Vec::new(alloc),
-        }
+            properties: Vec::with_capacity(alloc, capacity)?,
+        })
     }
 
     fn add(&mut self, meaning: Meaning) -> Result<(), Memory>

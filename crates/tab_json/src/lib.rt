@@ -5,6 +5,7 @@ mod bodies;
 mod entities;
 mod faults;
 mod laws;
+mod lent;
 mod members_read;
 mod members_written;
 mod slots;

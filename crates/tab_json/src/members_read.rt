@@ -1,21 +1,19 @@
 //! What the members of a body that is read mean (OData 3.0, JSON Format, "Representing an Entity"; the types by their
 //! annotations, "odata.type Annotation").
 ghost use Rattle.std.specs.Prelude.{◌≡◌, ◌≢◌, IfOk, IfSome, MatchResult, Ok, Err, option_map, option_and_then, option_copied};
-ghost use Rattle.serde_json.specs.View.{view};
 ghost use Rattle.tab_keys.specs.KeyTexts.{key_refusal};
 ghost use Rattle.tab_keys.specs.Results.{Gives};
 ghost use Rattle.tab_edm.specs.Values.{IsInTime};
+ghost use Rattle.tab_json.specs.Lent.{lent_data, lent_object};
 ghost use Rattle.tab_json.specs.Bodies.{is_ignored, annotated_by, names_value, is_present, is_given, type_in, type_by, type_of, value_of, text_as, text_of, key_or_refusal, key_by, property_by, annotation_meaning, value_meaning, meaning_of, IsTimely};
 
 use crate::JsonRefused;
+use crate::lent::{Lent, LentMembers};
+use crate::slots::{ANNOTATION, Name};
 use crate::types::{EdmType, named_type, own_type, text_value, value_as};
-use serde_json::Value as Json;
 use std::alloc::Global;
 use tab_edm::{Memory, Property, Value};
 use tab_keys::{KeyRefused, KeyText};
-
-/// What the name of an annotation has behind the name that it annotates.
-const ANNOTATION: &str = "@odata.type";
 
 /// What a member of a body means, if it is not refused.
 #[derive(Debug, Drop)]
@@ -31,11 +29,11 @@ pub enum Meaning {
 #[tactic(auto, unfolding(crate::specs::Bodies::meaning_of, crate::specs::Bodies::annotated_by))]
 pub(crate) fn meaning_of(
     alloc: Global,
-    body: &Json,
+    body: &LentMembers,
     name: &str,
-    value: &Json,
+    value: &Lent,
 ) -> Result<Meaning, JsonRefused>
-    ensures meaning { Gives JsonRefused.Memory (λ meaning. meaning) result (meaning_of (view body.now) name.now (view value.now)) }
+    ensures meaning { Gives JsonRefused.Memory (λ meaning. meaning) result (meaning_of (lent_object body.now) name.now (lent_data value.now)) }
     ensures in_time { IfOk result IsTimely }
 {
     if is_ignored(name) {
@@ -62,10 +60,10 @@ fn annotated_by(name: &str) -> Option<&str>
 }
 
 /// Whether a body gives the key or the property of this name.
-fn is_given(body: &Json, name: &str) -> bool
-    ensures { result ≡ is_given (view body.now) name.now }
+fn is_given(body: &LentMembers, name: &str) -> bool
+    ensures { result ≡ is_given (lent_object body.now) name.now }
 {
-    names_value(name) && is_present(body.get(name))
+    names_value(name) && is_present(body.get(Name::Plain(name)))
 }
 
 fn names_value(name: &str) -> bool
@@ -74,8 +72,8 @@ fn names_value(name: &str) -> bool
     !is_ignored(name) && annotated_by(name).is_none()
 }
 
-fn is_present(value: Option<&Json>) -> bool
-    ensures { result ≡ is_present (option_map (λ v. view v.now) value.entry) }
+fn is_present(value: Option<&Lent>) -> bool
+    ensures { result ≡ is_present (option_map (λ v. lent_data v.now) value.entry) }
 {
     match value {
         Some(value) => !value.is_null(),
@@ -84,23 +82,22 @@ fn is_present(value: Option<&Json>) -> bool
 }
 
 /// The type that an annotation names.
-fn type_in(annotation: &Json) -> Option<EdmType>
-    ensures { result ≡ type_in (view annotation.now) }
+fn type_in(annotation: &Lent) -> Option<EdmType>
+    ensures { result ≡ type_in (lent_data annotation.now) }
 {
     annotation.as_str().and_then(named_type)
 }
 
 /// The type of the member of a body with this name and value.
-fn type_of(alloc: Global, body: &Json, name: &str, value: &Json) -> Result<Option<EdmType>, Memory>
-    ensures { IfOk result (λ found. found ≡ type_of (view body.now) name.now (view value.now)) }
+fn type_of(body: &LentMembers, name: &str, value: &Lent) -> Option<EdmType>
+    ensures { result ≡ type_of (lent_object body.now) name.now (lent_data value.now) }
 {
-    let annotation = format!(in alloc; "{name}{ANNOTATION}")?;
-    Ok(type_by(body.get(annotation.as_str()), value))
+    type_by(body.get(Name::Annotation(name)), value)
 }
 
 /// The type of a value with this annotation, if there is one.
-fn type_by(annotation: Option<&Json>, value: &Json) -> Option<EdmType>
-    ensures { result ≡ type_by (option_map (λ v. view v.now) annotation.entry) (view value.now) }
+fn type_by(annotation: Option<&Lent>, value: &Lent) -> Option<EdmType>
+    ensures { result ≡ type_by (option_map (λ v. lent_data v.now) annotation.entry) (lent_data value.now) }
 {
     match annotation {
         Some(annotation) => type_in(annotation),
@@ -121,11 +118,11 @@ pub(crate) fn value_type(alloc: Global, name: &str) -> JsonRefused
 /// What an annotation of this name means.
 fn annotation_meaning(
     alloc: Global,
-    body: &Json,
+    body: &LentMembers,
     name: &str,
-    annotation: &Json,
+    annotation: &Lent,
 ) -> Result<Meaning, JsonRefused>
-    ensures meaning { Gives JsonRefused.Memory (λ meaning. meaning) result (annotation_meaning (view body.now) name.now (view annotation.now)) }
+    ensures meaning { Gives JsonRefused.Memory (λ meaning. meaning) result (annotation_meaning (lent_object body.now) name.now (lent_data annotation.now)) }
     ensures in_time { IfOk result IsTimely }
 {
     if is_given(body, name) || type_in(annotation).is_some() {
@@ -138,11 +135,11 @@ fn annotation_meaning(
 /// What a key or a property of this name and value means.
 fn value_meaning(
     alloc: Global,
-    body: &Json,
+    body: &LentMembers,
     name: &str,
-    value: &Json,
+    value: &Lent,
 ) -> Result<Meaning, JsonRefused>
-    ensures meaning { Gives JsonRefused.Memory (λ meaning. meaning) result (value_meaning (view body.now) name.now (view value.now)) }
+    ensures meaning { Gives JsonRefused.Memory (λ meaning. meaning) result (value_meaning (lent_object body.now) name.now (lent_data value.now)) }
     ensures in_time { IfOk result IsTimely }
 {
     if value.is_null() {
@@ -163,21 +160,23 @@ fn value_meaning(
 
 /// The key that the member of this name and value is.
 #[tactic(auto, unfolding(crate::specs::Bodies::text_of))]
-fn read_key(alloc: Global, body: &Json, name: &str, value: &Json) -> Result<KeyText, JsonRefused>
-    ensures { Gives JsonRefused.Memory (λ key. key) result (key_by name.now (text_of (view body.now) name.now (view value.now))) }
+fn read_key(
+    alloc: Global,
+    body: &LentMembers,
+    name: &str,
+    value: &Lent,
+) -> Result<KeyText, JsonRefused>
+    ensures { Gives JsonRefused.Memory (λ key. key) result (key_by name.now (text_of (lent_object body.now) name.now (lent_data value.now))) }
 {
-    let Ok(edm_type) = type_of(alloc, body, name, value) else {
-        return Err(JsonRefused::Memory);
-    };
-    match text_as(edm_type, value) {
+    match text_as(type_of(body, name, value), value) {
         Some(text) => key_of(alloc, text),
         None => Err(value_type(alloc, name)),
     }
 }
 
 /// The text of a key whose value has this type.
-fn text_as(edm_type: Option<EdmType>, value: &Json) -> Option<&str>
-    ensures { option_copied result ≡ option_and_then (λ t. text_as t (view value.now)) edm_type }
+fn text_as<'a>(edm_type: Option<EdmType>, value: &Lent<'a>) -> Option<&'a str>
+    ensures { option_copied result ≡ option_and_then (λ t. text_as t (lent_data value.now)) edm_type }
 {
     match edm_type {
         Some(EdmType::String) => value.as_str(),
@@ -198,11 +197,11 @@ fn key_of(alloc: Global, text: &str) -> Result<KeyText, JsonRefused>
 /// The property that the member of this name and value is.
 fn read_property(
     alloc: Global,
-    body: &Json,
+    body: &LentMembers,
     name: &str,
-    value: &Json,
+    value: &Lent,
 ) -> Result<Meaning, JsonRefused>
-    ensures meaning { Gives JsonRefused.Memory (λ meaning. meaning) result (property_by name.now (value_of (view body.now) name.now (view value.now))) }
+    ensures meaning { Gives JsonRefused.Memory (λ meaning. meaning) result (property_by name.now (value_of (lent_object body.now) name.now (lent_data value.now))) }
     ensures in_time { IfOk result IsTimely }
 {
     match value_of(alloc, body, name, value) {
@@ -217,11 +216,16 @@ fn read_property(
 
 /// The value of the property that the member of this name and value is.
 #[tactic(auto, unfolding(crate::specs::Bodies::value_of))]
-fn value_of(alloc: Global, body: &Json, name: &str, value: &Json) -> Result<Option<Value>, Memory>
-    ensures value { IfOk result (λ found. found ≡ value_of (view body.now) name.now (view value.now)) }
+fn value_of(
+    alloc: Global,
+    body: &LentMembers,
+    name: &str,
+    value: &Lent,
+) -> Result<Option<Value>, Memory>
+    ensures value { IfOk result (λ found. found ≡ value_of (lent_object body.now) name.now (lent_data value.now)) }
     ensures in_time { IfOk result (λ found. IfSome found IsInTime) }
 {
-    match type_of(alloc, body, name, value)? {
+    match type_of(body, name, value) {
         Some(edm_type) => value_as(alloc, edm_type, value),
         None => Ok(None),
     }

@@ -64,7 +64,7 @@ fn compare_parts(a: &str, x: &str, b: &str, y: &str) -> Ordering
 
 impl<'a> Name<'a> {
     /// The text that is lent.
-    fn front(self) -> &'a str
+    pub(crate) fn front(self) -> &'a str
         ensures { result.now ≡ name_front self.entry }
     {
         match self {

@@ -6,8 +6,10 @@ ghost use Rattle.std.specs.Fmt.{signed_decimal};
 ghost use Rattle.serde_json.specs.View.{view};
 ghost use Rattle.uuid.specs.Text.{parsed};
 ghost use Rattle.tab_edm.specs.Values.{IsInTime};
+ghost use Rattle.tab_json.specs.Lent.{lent_data};
 ghost use Rattle.tab_json.specs.Values.{named_type, own_type, int32_of, int64_of, value_as};
 
+use crate::lent::Lent;
 use itoa::Buffer;
 use serde_json::Value as Json;
 use std::alloc::Global;
@@ -44,7 +46,19 @@ pub(crate) fn named_type(name: &str) -> Option<EdmType>
 }
 
 /// The type of a JSON value beside which no type is named.
-pub(crate) fn own_type(value: &Json) -> Option<EdmType>
+pub(crate) fn own_type(value: &Lent) -> Option<EdmType>
+    ensures { result ≡ own_type (lent_data value.now) }
+{
+    match value {
+        Lent::Text(_) => Some(EdmType::String),
+        Lent::Flag(_) => Some(EdmType::Boolean),
+        Lent::Number(_) => Some(EdmType::Int32),
+        Lent::Null => None,
+        Lent::Tree(value) => tree_type(value),
+    }
+}
+
+fn tree_type(value: &Json) -> Option<EdmType>
     ensures { result ≡ own_type (view value.now) }
 {
     match value {
@@ -60,9 +74,9 @@ pub(crate) fn own_type(value: &Json) -> Option<EdmType>
 pub(crate) fn value_as(
     alloc: Global,
     edm_type: EdmType,
-    value: &Json,
+    value: &Lent,
 ) -> Result<Option<Value>, Memory>
-    ensures value { IfOk result (λ found. found ≡ value_as edm_type (view value.now)) }
+    ensures value { IfOk result (λ found. found ≡ value_as edm_type (lent_data value.now)) }
     ensures in_time { IfOk result (λ found. IfSome found IsInTime) }
 {
     Ok(match edm_type {
@@ -92,8 +106,8 @@ pub(crate) fn text_value(alloc: Global, text: &str) -> Result<TextValue, Memory>
     Ok(TextValue::new(String::from_str(alloc, text)?))
 }
 
-fn int32_of(value: &Json) -> Option<i32>
-    ensures { result ≡ int32_of (view value.now) }
+fn int32_of(value: &Lent) -> Option<i32>
+    ensures { result ≡ int32_of (lent_data value.now) }
 {
     match value.as_i64() {
         Some(number) => i32::try_from(number).ok(),
@@ -102,7 +116,7 @@ fn int32_of(value: &Json) -> Option<i32>
 }
 
 /// The whole number whose decimal text this is.
-fn int64_of(text: &str) -> Option<i64>
+pub(crate) fn int64_of(text: &str) -> Option<i64>
     ensures value { result ≡ int64_of text.now }
     ensures exact { (z : ℤ) → (result ≡ Some z) ↔ ((text.now ≡ signed_decimal z) × FitsSigned w64 z) }
 {
