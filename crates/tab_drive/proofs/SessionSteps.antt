@@ -9,7 +9,6 @@ use Rattle.tab_http.specs.declared.refusals.HttpRefused.{HttpRefused}
 use Rattle.tab_http.specs.declared.refusals.HttpRefused.TheVariants as http
 use Rattle.tab_ops.specs.Groups.{ItemView}
 use Rattle.tab_history.specs.World.{table_of}
-use Rattle.tab_history.specs.declared.entries.Entry.{Entry}
 use Rattle.tab_history.specs.declared.entries.Denied.TheVariants as denied
 use Rattle.tab_history.specs.declared.asks.Ask.{Ask}
 use Rattle.tab_history.specs.declared.asks.Ask.TheVariants as ask
