@@ -16,6 +16,14 @@ pub fn told(alloc: Global, parts: &[&str]) -> Answer {
     Ok(answer)
 }
 
+/// The text, or another where it is empty.
+pub fn some_or(mut text: String, empty: &str) -> Answer {
+    if text.is_empty() {
+        text.push_str(empty)?;
+    }
+    Ok(text)
+}
+
 /// The answer of a number between two texts.
 pub fn counted(alloc: Global, before: &str, number: u64, behind: &str) -> Answer {
     Ok(format!(in alloc; "{before}{number}{behind}")?)

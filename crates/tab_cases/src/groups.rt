@@ -6,7 +6,7 @@ ghost use Rattle.tab_keys.specs.KeyTexts.{units_of};
 ghost use Rattle.tab_ops.specs.Groups.{IsMadeFor};
 
 use crate::answers::{Answer, counted, field, number, refused, told, unknown};
-use crate::rows::{entity_at, key_in, row};
+use crate::rows::{entity_at, key_in, place, row};
 use crate::stops::Stop;
 use crate::values::{add_part, properties_text};
 use crate::walks::split_word;
@@ -26,13 +26,20 @@ const TABLE: u64 = 1;
 pub fn answer(alloc: Global, word: &str, fields: &[String]) -> Answer {
     match (word, fields) {
         ("group", items) => grouped(alloc, items),
-        ("act", [tick, row, items @ ..]) => act(alloc, number(tick.as_str())?, row.as_str(), items),
+        ("act", [tick, rows, items @ ..]) => {
+            act(alloc, number(tick.as_str())?, rows.as_str(), items)
+        }
         _ => unknown(),
     }
 }
 
 fn grouped(alloc: Global, fields: &[String]) -> Answer {
-    match Group::new(items(alloc, fields)?) {
+    let items = items(alloc, fields)?;
+    group_text(alloc, items)
+}
+
+fn group_text(alloc: Global, items: Vec<Item>) -> Answer {
+    match Group::new(items) {
         Ok(group) => counted(alloc, "", group.items().len() as u64, " operations"),
         Err(why) => refused(alloc, &why),
     }
@@ -57,7 +64,7 @@ fn item(alloc: Global, text: &str) -> Result<Item, Stop> {
 
 fn item_in(alloc: Global, name: TableName, text: &str) -> Result<Item, Stop> {
     let (at, operation) = split_word(text);
-    let key = key_in(alloc, TABLE, at)?;
+    let key = key_in(alloc, at)?;
     item_at(alloc, name, key, operation)
 }
 
@@ -99,16 +106,26 @@ fn conditional(
 }
 
 fn condition_of(text: &str) -> Result<Match, Stop> {
-    if text == "any" {
-        return Ok(Match::Any);
+    match text {
+        "any" => Ok(Match::Any),
+        tick => tick_of(tick),
     }
-    Ok(Match::Tick(number(text)?))
 }
 
-fn act(alloc: Global, tick: u64, row: &str, fields: &[String]) -> Answer {
-    let rows = rows(alloc, row)?;
-    match Group::new(items(alloc, fields)?) {
-        Ok(group) => act_on(alloc, &rows, &group, tick),
+fn tick_of(text: &str) -> Result<Match, Stop> {
+    let tick = number(text)?;
+    Ok(Match::Tick(tick))
+}
+
+fn act(alloc: Global, tick: u64, texts: &str, fields: &[String]) -> Answer {
+    let rows = rows(alloc, texts)?;
+    let items = items(alloc, fields)?;
+    act_by(alloc, &rows, items, tick)
+}
+
+fn act_by(alloc: Global, rows: &Rows, items: Vec<Item>, tick: u64) -> Answer {
+    match Group::new(items) {
+        Ok(group) => act_on(alloc, rows, &group, tick),
         Err(_) => Err(Stop::Unread("a group is wanted")),
     }
 }
@@ -117,21 +134,25 @@ fn act(alloc: Global, tick: u64, row: &str, fields: &[String]) -> Answer {
 fn rows(alloc: Global, text: &str) -> Result<Rows, Stop> {
     let mut rows = Rows::new(alloc);
     for part in text.split_terminator(';') {
-        put(&mut rows, described(alloc, part.trim_ascii())?)?;
+        put(alloc, &mut rows, part.trim_ascii())?;
     }
     Ok(rows)
 }
 
-fn put(rows: &mut Rows, row: Row) -> Result<(), Stop> {
-    rows.reserve(1)?;
-    let _before = rows.put(row);
+fn put(alloc: Global, rows: &mut Rows, text: &str) -> Result<(), Stop> {
+    let row = described(alloc, text)?;
+    let _before = place(rows, row)?;
     Ok(())
 }
 
 fn described(alloc: Global, text: &str) -> Result<Row, Stop> {
     let (at, rest) = split_word(text);
-    let (tick, body) = split_word(rest);
-    let key = key_in(alloc, TABLE, at)?;
+    let key = key_in(alloc, at)?;
+    row_with(alloc, key, rest)
+}
+
+fn row_with(alloc: Global, key: Key, text: &str) -> Result<Row, Stop> {
+    let (tick, body) = split_word(text);
     row(alloc, key, number(tick)?, body)
 }
 
@@ -173,8 +194,16 @@ fn change_text(alloc: Global, change: &Change) -> Answer {
 
 fn row_text(alloc: Global, row: &Row) -> Answer {
     let properties = properties_text(alloc, row.entity.properties())?;
-    let (pk, rk) = (row.key.pk.as_str(), row.key.rk.as_str());
-    Ok(format!(in alloc; "{pk}/{rk} at {} ({properties})", row.tick)?)
+    let at = key_text(alloc, &row.key)?;
+    row_parts(alloc, at.as_str(), row.tick, properties.as_str())
+}
+
+fn row_parts(alloc: Global, at: &str, tick: u64, properties: &str) -> Answer {
+    Ok(format!(in alloc; "{at} at {tick} ({properties})")?)
+}
+
+fn key_text(alloc: Global, key: &Key) -> Answer {
+    told(alloc, &[key.pk.as_str(), "/", key.rk.as_str()])
 }
 
 fn taken_text(alloc: Global, key: &Key) -> Answer {

@@ -107,10 +107,20 @@ fn with_cuts(alloc: Global, input: &[u8], whole: &str) -> Answer {
 /// Adds what differs where the input is cut in two at a byte, or has as many bytes carried over.
 fn cut_everywhere(alloc: Global, came: &mut String, input: &[u8], whole: &str) -> Result<(), Stop> {
     for offset in 1..input.len() {
-        add_cut(alloc, came, input, whole, (offset, usize::MAX))?;
-        add_carried(alloc, came, input, whole, offset)?;
+        add_cut_at(alloc, came, input, whole, offset)?;
     }
     Ok(())
+}
+
+fn add_cut_at(
+    alloc: Global,
+    came: &mut String,
+    input: &[u8],
+    whole: &str,
+    offset: usize,
+) -> Result<(), Stop> {
+    add_cut(alloc, came, input, whole, (offset, usize::MAX))?;
+    add_carried(alloc, came, input, whole, offset)
 }
 
 /// Adds what differs at one of the cuts for an input of its size.
@@ -226,10 +236,17 @@ pub fn message_text(alloc: Global, message: &Message) -> Answer {
 
 /// A body, or its size where it is long or no text.
 fn body_text(alloc: Global, body: &[u8]) -> Answer {
-    match str::from_utf8(body) {
-        Ok(text) if body.len() <= LONGEST_SPELLED => told(alloc, &[text]),
-        _ => counted(alloc, "", body.len() as u64, " bytes"),
+    if body.len() > LONGEST_SPELLED {
+        return size_text(alloc, body);
     }
+    match str::from_utf8(body) {
+        Ok(text) => told(alloc, &[text]),
+        Err(_) => size_text(alloc, body),
+    }
+}
+
+fn size_text(alloc: Global, body: &[u8]) -> Answer {
+    counted(alloc, "", body.len() as u64, " bytes")
 }
 
 fn faulty(alloc: Global, fields: &[String], block: &str) -> Answer {

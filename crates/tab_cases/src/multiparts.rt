@@ -1,6 +1,6 @@
 //! Cases of multipart bodies, of the boundaries that announce them, and of the text of a reply to a batch.
 
-use crate::answers::{Answer, counted, field, told, unknown};
+use crate::answers::{Answer, counted, field, some_or, told, unknown};
 use crate::messages::message_text;
 use crate::stops::{NO_MEMORY, Stop};
 use crate::values::add_part;
@@ -52,10 +52,7 @@ fn requests_text(alloc: Global, messages: &[Message]) -> Answer {
     for message in messages {
         add_message(alloc, &mut text, message)?;
     }
-    if text.is_empty() {
-        text.push_str("no requests")?;
-    }
-    Ok(text)
+    some_or(text, "no requests")
 }
 
 /// Adds a message to those before it.

@@ -1,4 +1,4 @@
-//! Cases of sources, sinks and disks in memory, of whose calls the listed ones fail.
+//! Cases of sources and sinks in memory, of whose calls the listed ones fail.
 
 use crate::answers::{Answer, counted, field, number, told, unknown};
 use crate::stops::{NO_MEMORY, Stop};
@@ -8,19 +8,17 @@ use std::alloc::Global;
 use std::str;
 use tab_http::write_reply;
 use tab_outside::{
-    Disk, Failed, FillRefused, MemDisk, MemSink, MemSource, Sink, Source, fill, read_byte,
-    write_all,
+    Failed, FillRefused, MemSink, MemSource, Sink, Source, fill, read_byte, write_all,
 };
 
 /// The longest buffer of a read.
 const LONGEST_BUFFER: usize = 64;
 
-/// `source FAILS | BYTES | CALL ..`, `sink FAILS | CALL ..` and `disk FAILS | CALL ..`: what the calls answer, one after another.
+/// `source FAILS | BYTES | CALL ..` and `sink FAILS | CALL ..`: what the calls answer, one after another.
 pub fn answer(alloc: Global, word: &str, fields: &[String]) -> Answer {
     match word {
         "source" => source(alloc, fields),
         "sink" => sink(alloc, fields),
-        "disk" => disk(alloc, fields),
         _ => unknown(),
     }
 }
@@ -29,9 +27,15 @@ pub fn answer(alloc: Global, word: &str, fields: &[String]) -> Answer {
 pub fn calls(alloc: Global, fails: &str) -> Result<Vec<u64>, Stop> {
     let mut calls = Vec::new(alloc);
     for call in fails.split_whitespace() {
-        calls.push(number(call)?)?;
+        push_call(&mut calls, call)?;
     }
     Ok(calls)
+}
+
+fn push_call(calls: &mut Vec<u64>, call: &str) -> Result<(), Stop> {
+    let call = number(call)?;
+    calls.push(call)?;
+    Ok(())
 }
 
 fn size(text: &str) -> Result<usize, Stop> {
@@ -101,8 +105,8 @@ fn add_answer(came: &mut String, answer: Answer) -> Result<(), Stop> {
 fn source_call(alloc: Global, source: &mut MemSource, filled: &mut Vec<u8>, call: &str) -> Answer {
     match split_word(call) {
         ("byte", "") => byte(alloc, source),
-        ("read", text) => read(alloc, source, buffer(alloc, text)?),
-        ("fill", text) => fill_up(alloc, source, filled, size(text)?),
+        ("read", text) => read(alloc, source, text),
+        ("fill", text) => fill_up(alloc, source, filled, text),
         _ => unknown(),
     }
 }
@@ -115,12 +119,14 @@ fn byte(alloc: Global, source: &mut MemSource) -> Answer {
     }
 }
 
-fn read(alloc: Global, source: &mut MemSource, mut buffer: Vec<u8>) -> Answer {
+fn read(alloc: Global, source: &mut MemSource, text: &str) -> Answer {
+    let mut buffer = buffer(alloc, text)?;
     let count = source.read(&mut buffer);
     read_text(alloc, count, buffer.as_slice())
 }
 
-fn fill_up(alloc: Global, source: &mut MemSource, filled: &mut Vec<u8>, count: usize) -> Answer {
+fn fill_up(alloc: Global, source: &mut MemSource, filled: &mut Vec<u8>, text: &str) -> Answer {
+    let count = size(text)?;
     let told = match fill(source, count, filled) {
         Ok(()) => "whole, ",
         Err(FillRefused::Ended) => "ended, ",
@@ -149,9 +155,13 @@ fn sink_call(alloc: Global, sink: &mut MemSink, call: &str) -> Answer {
         ("write", text) => written(alloc, sink.write(text.as_bytes())),
         ("all", text) => done(alloc, write_all(sink, text.as_bytes()).is_ok()),
         ("reply", text) => done(alloc, write_reply(sink, text.as_bytes()).is_ok()),
-        ("taken", "") => told(alloc, &[str::from_utf8(sink.bytes()).unwrap_or("?")]),
+        ("taken", "") => taken(alloc, sink),
         _ => unknown(),
     }
+}
+
+fn taken(alloc: Global, sink: &MemSink) -> Answer {
+    told(alloc, &[str::from_utf8(sink.bytes()).unwrap_or("?")])
 }
 
 fn written(alloc: Global, count: Result<usize, Failed>) -> Answer {
@@ -159,55 +169,4 @@ fn written(alloc: Global, count: Result<usize, Failed>) -> Answer {
         Ok(count) => counted(alloc, "", count as u64, " bytes"),
         Err(_) => told(alloc, &["failed"]),
     }
-}
-
-fn disk(alloc: Global, fields: &[String]) -> Answer {
-    let mut disk = MemDisk::new(alloc, calls(alloc, field(fields, 0)?)?);
-    disk_calls(alloc, &mut disk, fields)
-}
-
-fn disk_calls(alloc: Global, disk: &mut MemDisk, fields: &[String]) -> Answer {
-    let mut came = String::new(alloc);
-    for call in fields.iter().skip(1) {
-        add_answer(&mut came, disk_call(alloc, disk, call.as_str()))?;
-    }
-    Ok(came)
-}
-
-/// `len`, `write AT BYTES`, `read AT SIZE` into a buffer of dashes, `sync`, and `stops`: whether the disk has any.
-fn disk_call(alloc: Global, disk: &mut MemDisk, call: &str) -> Answer {
-    match split_word(call) {
-        ("len", "") => len(alloc, disk),
-        ("write", text) => write(alloc, disk, text),
-        ("read", text) => read_at(alloc, disk, text),
-        ("sync", "") => done(alloc, disk.sync().is_ok()),
-        ("stops", "") => stops(alloc, disk),
-        _ => unknown(),
-    }
-}
-
-fn len(alloc: Global, disk: &mut MemDisk) -> Answer {
-    match disk.len() {
-        Ok(len) => counted(alloc, "", len, " bytes"),
-        Err(_) => told(alloc, &["failed"]),
-    }
-}
-
-fn write(alloc: Global, disk: &mut MemDisk, text: &str) -> Answer {
-    let (at, bytes) = split_word(text);
-    done(alloc, disk.write_at(number(at)?, bytes.as_bytes()).is_ok())
-}
-
-fn read_at(alloc: Global, disk: &mut MemDisk, text: &str) -> Answer {
-    let (at, size) = split_word(text);
-    let mut buffer = buffer(alloc, size)?;
-    let count = disk.read_at(number(at)?, &mut buffer);
-    read_text(alloc, count, buffer.as_slice())
-}
-
-/// Whether failures and stops can be armed; this arms both, and starts the disk again with what was synced last.
-fn stops(alloc: Global, disk: &mut MemDisk) -> Answer {
-    let is_armed = disk.arm_fail(1) | disk.arm_stop(1);
-    let has_stops = is_armed | disk.restart(0) | disk.stopped();
-    told(alloc, &[if has_stops { "some" } else { "none" }])
 }

@@ -5,14 +5,14 @@ ghost use Rattle.tab_keys.specs.declared.bounds.Bound.TheVariants.{At, End};
 
 use crate::answers::{Answer, field, unknown};
 use crate::keys::text_of_key;
-use crate::rows::{key_in, row};
+use crate::rows::{key_in, place, row};
 use crate::stops::Stop;
 use std::alloc::Global;
 use std::marker::Brand;
 use std::sync::ledger::{Blank, Ledger};
-use tab_keys::{Bound, Key, KeyText, Memory, Span};
+use tab_keys::{Bound, KeyText, Memory, Span};
 use tab_page::{Options, Page, page};
-use tab_rows::{Rows, Steps};
+use tab_rows::{Row, Rows, Steps};
 
 /// The table of the rows.
 const TABLE: u64 = 1;
@@ -35,16 +35,20 @@ fn asked(alloc: Global, keys: &str, query: &str) -> Answer {
 fn rows(alloc: Global, keys: &str) -> Result<Rows, Stop> {
     let mut rows = Rows::new(alloc);
     for key in keys.split_whitespace() {
-        put(alloc, &mut rows, key_in(alloc, TABLE, key)?)?;
+        put(alloc, &mut rows, key)?;
     }
     Ok(rows)
 }
 
-fn put(alloc: Global, rows: &mut Rows, key: Key) -> Result<(), Stop> {
-    let row = row(alloc, key, 0, "{}")?;
-    rows.reserve(1)?;
-    let _before = rows.put(row);
+fn put(alloc: Global, rows: &mut Rows, key: &str) -> Result<(), Stop> {
+    let row = row_at(alloc, key)?;
+    let _before = place(rows, row)?;
     Ok(())
+}
+
+fn row_at(alloc: Global, key: &str) -> Result<Row, Stop> {
+    let key = key_in(alloc, key)?;
+    row(alloc, key, 0, "{}")
 }
 
 fn page_in(alloc: Global, rows: &Rows, query: &str) -> Answer {
@@ -59,12 +63,19 @@ fn page_of(alloc: Global, rows: &Rows, options: &Options) -> Answer {
     page_text(alloc, &page)
 }
 
+fn first_bound(alloc: Global) -> Result<Bound, Stop>
+    ensures { IfOk result (λ bound. bound ≡ At 0 []) }
+{
+    let first = text_of_key(alloc, "")?;
+    Ok(Bound::At(0, first))
+}
+
 /// All keys.
 fn everywhere(alloc: Global) -> Result<Span, Stop>
     ensures { IfOk result (λ span. span ≡ record { lo = At 0 []; hi = End }) }
 {
-    let first = text_of_key(alloc, "")?;
-    match Span::new(Bound::At(0, first), Bound::End) {
+    let first = first_bound(alloc)?;
+    match Span::new(first, Bound::End) {
         Some(span) => Ok(span),
         None => Err(Stop::Unread("there is no span of all keys")),
     }

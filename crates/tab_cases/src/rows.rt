@@ -4,12 +4,11 @@ ghost use Rattle.std.specs.Prelude.{◌≡◌, ◌<◌, ◌≤◌, length, IfOk}
 ghost use Rattle.tab_edm.specs.declared.TheConstants.{GREATEST};
 ghost use Rattle.tab_keys.specs.KeyTexts.{units_of};
 
-use crate::answers::{Answer, counted, number, told, unknown};
-use crate::entities;
-use crate::keys::text_of_key;
+use crate::answers::{Answer, counted, number, number_at, some_or, told, unknown};
 use crate::stops::Stop;
 use crate::values::add_part;
 use crate::walks::split_word;
+use crate::{entities, keys};
 use std::alloc::Global;
 use std::marker::Brand;
 use std::sync::ledger::{Blank, Ledger};
@@ -63,26 +62,25 @@ fn look(alloc: Global, rows: &Rows, word: &str, text: &str) -> Answer {
     }
 }
 
+/// The texts between strokes.
+fn parts(alloc: Global, text: &str) -> Result<Vec<String>, Stop> {
+    let mut parts = Vec::new(alloc);
+    for part in text.split('/') {
+        parts.push(String::from_str(alloc, part)?)?;
+    }
+    Ok(parts)
+}
+
 /// The key of `TABLE/PK/RK`.
 pub fn key(alloc: Global, text: &str) -> Result<Key, Stop> {
-    match text.split_once('/') {
-        Some((table, rest)) => key_in(alloc, number(table)?, rest),
-        None => Err(Stop::Unread("a key TABLE/PK/RK is wanted")),
-    }
+    let parts = parts(alloc, text)?;
+    keys::key(alloc, parts.as_slice(), 0)
 }
 
-/// The key of `PK/RK` in a table.
-pub fn key_in(alloc: Global, table: u64, text: &str) -> Result<Key, Stop> {
-    match text.split_once('/') {
-        Some((pk, rk)) => key_of(alloc, table, pk, rk),
-        None => Err(Stop::Unread("a key PK/RK is wanted")),
-    }
-}
-
-fn key_of(alloc: Global, table: u64, pk: &str, rk: &str) -> Result<Key, Stop> {
-    let pk = text_of_key(alloc, pk)?;
-    let rk = text_of_key(alloc, rk)?;
-    Ok(Key { table, pk, rk })
+/// The key of `PK/RK` in table 1.
+pub fn key_in(alloc: Global, text: &str) -> Result<Key, Stop> {
+    let text = told(alloc, &["1/", text])?;
+    key(alloc, text.as_str())
 }
 
 /// The row of a key, a tick and the body of an entity.
@@ -116,16 +114,25 @@ pub fn entity_at(alloc: Global, pk: &KeyText, rk: &KeyText, body: &str) -> Resul
 
 fn put(alloc: Global, rows: &mut Rows, text: &str) -> Answer {
     let (at, tick) = split_word(text);
-    let key = key(alloc, at)?;
-    let row = row(alloc, key, number(tick)?, "{}")?;
+    let row = bare_row(alloc, at, number(tick)?)?;
     put_row(alloc, rows, row)
+}
+
+fn bare_row(alloc: Global, at: &str, tick: u64) -> Result<Row, Stop> {
+    let key = key(alloc, at)?;
+    row(alloc, key, tick, "{}")
 }
 
 /// Puts a row: the tick of the one that stood there.
 fn put_row(alloc: Global, rows: &mut Rows, row: Row) -> Answer {
-    rows.reserve(1)?;
-    let before = rows.put(row);
+    let before = place(rows, row)?;
     tick_text(alloc, before.as_ref())
+}
+
+/// Puts a row, and gives the one that stood there.
+pub fn place(rows: &mut Rows, row: Row) -> Result<Option<Row>, Stop> {
+    rows.reserve(1)?;
+    Ok(rows.put(row))
 }
 
 fn take(alloc: Global, rows: &mut Rows, text: &str) -> Answer {
@@ -165,14 +172,13 @@ fn from(alloc: Global, rows: &Rows, text: &str) -> Answer {
 }
 
 fn past(alloc: Global, rows: &Rows, text: &str) -> Answer {
-    match text.split_once('/') {
-        Some((table, pk)) => past_of(alloc, rows, number(table)?, pk),
-        None => Err(Stop::Unread("TABLE/PK is wanted")),
-    }
+    let parts = parts(alloc, text)?;
+    past_of(alloc, rows, parts.as_slice())
 }
 
-fn past_of(alloc: Global, rows: &Rows, table: u64, pk: &str) -> Answer {
-    let pk = text_of_key(alloc, pk)?;
+fn past_of(alloc: Global, rows: &Rows, parts: &[String]) -> Answer {
+    let table = number_at(parts, 0)?;
+    let pk = keys::key_text(alloc, parts, 1)?;
     lent(alloc, rows.past(table, &pk))
 }
 
@@ -194,18 +200,10 @@ fn ticks<L: Ledger>(alloc: Global, blank: Blank, mut cursor: Cursor<'_>) -> Answ
             None => break,
         }
     }
-    some_or_none(came)
+    some_or(came, "none")
 }
 
 fn add_tick(alloc: Global, came: &mut String, tick: u64) -> Result<(), Stop> {
     let part = counted(alloc, "", tick, "")?;
     add_part(came, part.as_str())
-}
-
-/// The text, or that it is empty.
-pub fn some_or_none(mut text: String) -> Answer {
-    if text.is_empty() {
-        text.push_str("none")?;
-    }
-    Ok(text)
 }
