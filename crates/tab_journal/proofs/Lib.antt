@@ -1,0 +1,13 @@
+pub mod Bytes
+pub mod Images
+pub mod Building
+pub mod Fronts
+pub mod Appending
+pub mod Running
+pub mod Compacting
+pub mod ReadingLaws
+pub mod PairLaws
+pub mod Opening
+pub mod Adopting
+pub mod Causes
+pub mod Keeping

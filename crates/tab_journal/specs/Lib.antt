@@ -1,0 +1,9 @@
+pub mod Told
+pub mod Fitting
+pub mod Areas
+pub mod Reading
+pub mod Steps
+pub mod Stores
+pub mod Making
+pub mod Keeping
+pub mod KeptCauses

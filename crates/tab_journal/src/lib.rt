@@ -1,0 +1,26 @@
+//! A store of frames over two disks, its areas: what a crash leaves at any moment spells the frames before a call or after
+//! it, and nothing else.
+#![tactic(auto)]
+
+mod areas;
+mod disks;
+mod fitting;
+mod headers;
+mod kept;
+mod laws;
+mod listings;
+mod making;
+mod maps;
+mod ranges;
+mod reading;
+mod refusals;
+mod store;
+#[cfg(test)]
+mod tests;
+
+pub use fitting::{MAP_KIND, NAMES_KIND, SERVER_KIND};
+pub use kept::{Content, Kept, KeptRefused};
+pub use laws::areas_spell_what_is_read;
+pub use maps::MOST_RANGES;
+pub use refusals::{Back, StoreRefused};
+pub use store::Store;
