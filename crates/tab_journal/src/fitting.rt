@@ -28,7 +28,7 @@ pub enum Told {
     Names(Option<NamesState>),
     /// Of a server.
     Server(Ranges),
-    /// Of a store of no kind, which has no frames.
+    /// Of a store of no kind; there is none.
     Nothing,
 }
 
@@ -71,11 +71,11 @@ impl Told {
         }
     }
 
-    /// Whether the frames may end here: a map and names have their first frame.
+    /// Whether the frames may end here: a map and names have their first frame, and a store of no kind has no end.
     #[tactic(auto, unfolding(crate::specs::Fitting::is_whole_store))]
     pub fn is_whole(&self) -> bool
         ensures { result ≡ is_whole_store self.now }
     {
-        !matches!(self, Told::Map(None) | Told::Names(None))
+        !matches!(self, Told::Map(None) | Told::Names(None) | Told::Nothing)
     }
 }
