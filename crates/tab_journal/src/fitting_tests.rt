@@ -1,6 +1,7 @@
-//! Frames of each kind that fit those before them, and frames that do not.
+//! Frames of each kind that fit those before them, and frames that do not; and areas that are read beside another one.
 use crate::fitting::Told;
-use crate::{MAP_KIND, NAMES_KIND, SERVER_KIND};
+use crate::reading::read_areas;
+use crate::{MAP_KIND, NAMES_KIND, SERVER_KIND, StoreRefused};
 use std::alloc::Global;
 use std::test::Fail;
 use tab_codec::{Frame, FrameList, RangeRow};
@@ -214,5 +215,52 @@ fn frames_of_names_fit_the_tables_that_are_there(rt: HostRuntime) -> Result<(), 
         false, true, true, false,
     ];
     assert_eq!(rt; fitting(alloc, NAMES_KIND, &frames)?.as_slice(), due);
+    Ok(())
+}
+
+#[test]
+fn a_place_in_the_first_area_comes_first(rt: HostRuntime) -> Result<(), Fail> {
+    let alloc = rt.alloc();
+    let header = b"\x01TABSTORE\x01\x01\x00\x00\x00\x00\x00\x00\x00\x00\x01";
+    let frames = b"\x01\x07\x00\x00\x00\x0c\x00\x00\x00\x00\x00\x00\x00\x01\x00\x00\x00\x00\x00";
+    let mut whole = Vec::new(alloc);
+    whole.extend_from_slice(header)?;
+    whole.extend_from_slice(frames)?;
+    let mut broken = Vec::new(alloc);
+    broken.extend_from_slice(header)?;
+    broken.extend_from_slice(b"\x01\x0a")?;
+    let cases: [(&[u8], &[u8], u8, u64); 6] = [
+        (whole.as_slice(), b"", 1, 0),
+        (whole.as_slice(), b"\x01TABX", 1, 4),
+        (broken.as_slice(), b"", 0, 21),
+        (broken.as_slice(), b"\x01TABX", 0, 21),
+        (b"\x01TABSTORE\x01\x01\x05", b"", 0, 11),
+        (b"\x01TABSTORE\x01\x02", b"", 0, 10),
+    ];
+    for (first, second, area, at) in cases {
+        match read_areas(alloc, NAMES_KIND, 0, first, second) {
+            Ok(_) => return Err(Fail::new("read")),
+            Err(refused) => assert_eq!(rt; refused, StoreRefused::NotAStore { area, at }),
+        }
+    }
+    match read_areas(alloc, NAMES_KIND, 0, b"\x00", whole.as_slice()) {
+        Ok(reading) => {
+            assert_eq!(rt;
+                (reading.area, reading.epoch, reading.other_open),
+                (1, 1, false)
+            );
+            assert_eq!(rt; (reading.found.frames.len(), reading.found.end), (1, 38));
+        }
+        Err(_) => return Err(Fail::new("not read")),
+    }
+    // A store of a kind that there is none of, and a map with a number.
+    for (kind, number, place) in [(7, 0, 10), (NAMES_KIND, 3, 38)] {
+        match read_areas(alloc, kind, number, whole.as_slice(), b"\x00") {
+            Ok(reading) => assert_eq!(rt; reading.found.end, place),
+            Err(refused) => {
+                assert_eq!(rt; refused, StoreRefused::NotAStore { area: 0, at: 10 });
+            }
+        }
+    }
     Ok(())
 }

@@ -72,7 +72,14 @@ impl NamesState {
                     Ok(false)
                 }
             }
-            Frame::Drop { table } => Ok(self.drop_table(*table)),
+            Frame::Drop { table } => {
+                if self.has_table(*table) {
+                    self.drop_table(*table);
+                    Ok(true)
+                } else {
+                    Ok(false)
+                }
+            }
             _ => Ok(false),
         }
     }
@@ -122,17 +129,19 @@ impl NamesState {
         Ok(())
     }
 
-    /// Drops a table, where it is there.
-    fn drop_table(&mut self, table: u64) -> bool
-        ensures fits { result ≡ list_any (λ (other : ℕ × List ℕ). other.0 == table) self.old.names }
-        ensures after { IsTrue result → self.new ≡ record self.old { names = filter (λ (other : ℕ × List ℕ). not (other.0 == table)) self.old.names; is_listing = false } }
+    /// Whether the table is there.
+    fn has_table(&self, table: u64) -> bool
+        ensures { result ≡ list_any (λ (other : ℕ × List ℕ). other.0 == table) self.now.names }
     {
-        if !self.names.iter().any(|other| other.0 == table) {
-            return false;
-        }
+        self.names.iter().any(|other| other.0 == table)
+    }
+
+    /// Drops a table.
+    fn drop_table(&mut self, table: u64)
+        ensures { self.new ≡ record self.old { names = filter (λ (other : ℕ × List ℕ). not (other.0 == table)) self.old.names; is_listing = false } }
+    {
         self.names.retain(|other| other.0 != table);
         self.is_listing = false;
-        true
     }
 
     /// Whether a table has the name, in whatever case.
