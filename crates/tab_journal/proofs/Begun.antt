@@ -12,17 +12,37 @@ use Rattle.tab_journal.specs.Begun.{IsBegunAt, IsPlaceOf}
 abbrev pub place : ℕ → List RangeTold → ℕ
 place range ranges = position_or_len (λ one. one.range == range) ranges
 
-changed_at : (range : ℕ) (f : RangeTold → RangeTold) (d : RangeTold) (ranges : List RangeTold) → place range ranges < length ranges
-    → at_range range f ranges ≡ set ranges (place range ranges) (f (get_or ranges (place range ranges) d))
+here : (range : ℕ) (one : RangeTold) (ranges : List RangeTold) → (one.range == range) ≡ true → place range (one ∷ ranges) ≡ 0
+here range one ranges h = ap (λ (v : Bool). cond (not v) (1 + place range ranges) 0) h
+
+further : (range : ℕ) (one : RangeTold) (ranges : List RangeTold) → (one.range == range) ≡ false → place range (one ∷ ranges) ≡ suc (place range ranges)
+further range one ranges h =
+    let e : 1 + place range ranges ≡ suc (place range ranges) = omega arith in
+    ap (λ (v : Bool). cond (not v) (1 + place range ranges) 0) h ∙ e
+
+changed_first : (range : ℕ) (f : RangeTold → RangeTold) (one : RangeTold) (ranges : List RangeTold) → (one.range == range) ≡ true → at_range range f (one ∷ ranges) ≡ f one ∷ ranges
 unfolding at_range
+changed_first range f one ranges h = rw h refl
+
+changed_more : (range : ℕ) (f : RangeTold → RangeTold) (one : RangeTold) (ranges : List RangeTold) → (one.range == range) ≡ false → at_range range f (one ∷ ranges) ≡ one ∷ at_range range f ranges
+unfolding at_range
+changed_more range f one ranges h = rw h refl
+
+abbrev set_at : (RangeTold → RangeTold) → RangeTold → List RangeTold → ℕ → List RangeTold
+set_at f d ranges n = set ranges n (f (get_or ranges n d))
+
+changed_by : (range : ℕ) (f : RangeTold → RangeTold) (d one : RangeTold) (ranges : List RangeTold) (v : Bool) → (one.range == range) ≡ v → place range (one ∷ ranges) < length (one ∷ ranges)
+    → (place range ranges < length ranges → at_range range f ranges ≡ set_at f d ranges (place range ranges))
+    → at_range range f (one ∷ ranges) ≡ set_at f d (one ∷ ranges) (place range (one ∷ ranges))
+changed_by range f d one ranges true h less so = changed_first range f one ranges h ∙ ap (set_at f d (one ∷ ranges)) (sym (here range one ranges h))
+changed_by range f d one ranges false h less so =
+    changed_more range f one ranges h
+    ∙ ap (λ (l : List RangeTold). one ∷ l) (so (omega (arith, less, further range one ranges h)))
+    ∙ ap (set_at f d (one ∷ ranges)) (sym (further range one ranges h))
+
+changed_at : (range : ℕ) (f : RangeTold → RangeTold) (d : RangeTold) (ranges : List RangeTold) → place range ranges < length ranges → at_range range f ranges ≡ set_at f d ranges (place range ranges)
 changed_at range f d [] less = absurd (let none : ⊥ = omega (arith, less) in none)
-changed_at range f d (one ∷ ranges) less =
-    elim (one.range == range) as (λ v. one.range == range ≡ v
-    → cond v (f one ∷ ranges) (one ∷ at_range range f ranges)
-    ≡ set (one ∷ ranges) (cond (not v) (suc (place range ranges)) 0) (f (get_or (one ∷ ranges) (cond (not v) (suc (place range ranges)) 0) d))) [
-      | true ↦ λ h. refl
-      | false ↦ λ h. ap (λ (l : List RangeTold). one ∷ l) (changed_at range f d ranges (let further : place range (one ∷ ranges) ≡ suc (place range ranges) = ap (λ (v : Bool). cond (not v) (suc (place range ranges)) 0) h in omega (arith, less, further)))
-    ] refl
+changed_at range f d (one ∷ ranges) less = changed_by range f d one ranges (one.range == range) refl less (changed_at range f d ranges)
 
 by_test : (range : ℕ) (ranges : List RangeTold) (b : Bool) → ltb (place range ranges) (length ranges) ≡ b → IsPlaceOf ranges range (cond b (Some (place range ranges)) None)
 by_test range ranges true e =

@@ -21,8 +21,8 @@ abbrev all : List RangeRow → Bound → Bool
 all rows bound = list_any (λ row. begins_in row.span bound) rows
 
 decided : {G : Type 0} (b : Bool) → (b ≡ true → G) → (b ≡ false → G) → G
-decided true yes no = yes refl
-decided false yes no = no refl
+decided true on_true on_false = on_true refl
+decided false on_true on_false = on_false refl
 
 same_bools : (x y : Bool) → (x ≡ true → y ≡ true) → (y ≡ true → x ≡ true) → x ≡ y
 same_bools true y to from = sym (to refl)
@@ -109,7 +109,7 @@ begins_is span bound = begins_by span.lo span.hi bound
 
 -- ---- the greatest bound that is not past a key
 
-bounds : List RangeRow → List Bound
+abbrev bounds : List RangeRow → List Bound
 bounds [] = []
 bounds (row ∷ rows) = row.span.lo ∷ row.span.hi ∷ bounds rows
 

@@ -1,5 +1,5 @@
 -- Reading an area frame by frame: what was read so far, and what is read behind it.
-use Rattle.std.proofs.Common.{◌≡◌, ℕ, zero, suc, ◌+◌, ◌-◌, ◌<◌, ◌≤◌, Bool, true, false, cond, Result, Ok, Err, List, [], ◌∷◌, ◌++◌, length, take, drop, get_or, refl, sym, ap, ◌∙◌, arith, append_assoc, length-append}
+use Rattle.std.proofs.Common.{◌≡◌, ℕ, zero, suc, ◌+◌, ◌-◌, ◌<◌, ◌≤◌, Bool, true, false, cond, Result, Ok, Err, List, [], ◌∷◌, ◌++◌, length, take, drop, get_or, refl, sym, ap, subst, ◌∙◌, arith, append_assoc, length-append}
 use Rattle.std.specs.Prelude.{◌==◌}
 use Rattle.std.proofs.lemmas.Bool.Decides.{nat_tests}
 use Rattle.std.proofs.lemmas.List.{append-nil, length-drop, drop-drop, drop_all, drop_more}
@@ -10,8 +10,10 @@ use Rattle.tab_journal.specs.Fitting.{told_first, takes, after, is_whole_store}
 use Rattle.tab_journal.specs.declared.fitting.Told.{Told}
 use Rattle.tab_journal.specs.Areas.{opened, first_gate}
 use Rattle.tab_journal.specs.Reading.{frames_from, frames_of, behind_gate, followed_by}
-use Rattle.tab_journal.specs.NextFrames.{IsNext}
-use Rattle.tab_journal.specs.Stores.{gates_from}
+use Rattle.tab_journal.specs.NextFrames.{IsNext, ReadsNext}
+use Rattle.tab_journal.specs.Stores.{gates_from, ReadsFrames}
+use Rattle.tab_journal.specs.declared.reading.Unread.{Unread}
+use Rattle.tab_journal.specs.declared.reading.Unread.TheVariants as unread
 use Rattle.tab_journal.proofs.Fronts.{opened_more}
 use Rattle.tab_journal.proofs.ReadingLaws.{one_read}
 
@@ -125,3 +127,30 @@ read_whole kind area told list places at so less shut whole =
 pub read_short : (kind : ℕ) (area : List ℕ) (told : Told) (list : List Frame) (places : List ℕ) (at : ℕ) → IsReadUpTo kind area told list places at → at < length area → (get_or area at 0 == 1) ≡ false
     → is_whole_store told ≡ false → frames_of kind area ≡ Err at
 read_short kind area told list places at so less shut short = read_closed kind area told list places at so less shut ∙ (rw short refl)
+
+-- ---- one frame
+
+pub next_refused : (told : Told) (at place : ℕ) (bytes : List ℕ) (rest : Frame → ℕ → Result (List Frame) ℕ) → frame_at bytes ≡ Err place → behind_gate told at (frame_at bytes) rest ≡ Err (at + 1 + place)
+next_refused told at place bytes rest e = rw e refl
+
+pub next_unfit : (told : Told) (at : ℕ) (bytes : List ℕ) (rest : Frame → ℕ → Result (List Frame) ℕ) (x : Frame × ℕ) → frame_at bytes ≡ Ok x → takes told x.0 ≡ false → behind_gate told at (frame_at bytes) rest ≡ Err at
+next_unfit told at bytes rest x e unfit = rw (e, unfit) refl
+
+pub begun_so : (kind : ℕ) (area : List ℕ) (told : Told) (list : List Frame) (places : List ℕ) → told ≡ told_first kind → list ≡ [] → places ≡ [] → IsReadUpTo kind area told list places 20
+begun_so kind area told list places is_told none no_place = rw (is_told, none, no_place) (begun_reading kind area)
+
+pub more_so : (kind : ℕ) (area : List ℕ) (told new : Told) (list more : List Frame) (places gates : List ℕ) (at : ℕ) (bytes : List ℕ) (frame : Frame) (size : ℕ) → IsReadUpTo kind area told list places at
+    → at < length area → get_or area at 0 ≡ 1 → bytes ≡ drop (at + 1) area → IsNext told new bytes frame size → more ≡ list ++ frame ∷ [] → gates ≡ places ++ at ∷ []
+    → IsReadUpTo kind area new more gates (at + (1 + size))
+more_so kind area told new list more places gates at bytes frame size so less is rest next pushed pushed_place =
+    rw (pushed, pushed_place) (read_more kind area told new list places at frame size so less is (subst (λ (l : List ℕ). IsNext told new l frame size) rest next))
+
+refused_at_place : (kind : ℕ) (area : List ℕ) (told new : Told) (list : List Frame) (places : List ℕ) (at : ℕ) (why : Unread) → IsReadUpTo kind area told list places at → at < length area → get_or area at 0 ≡ 1
+    → ReadsNext told new at (drop (at + 1) area) (Err why) → ReadsFrames (Err why) (frames_of kind area)
+refused_at_place kind area told new list places at (unread.At place) so less is none = read_refused kind area told list places at place so less is none
+refused_at_place kind area told new list places at unread.Memory so less is none = tt
+
+pub refused_so : (kind : ℕ) (area : List ℕ) (told new : Told) (list : List Frame) (places : List ℕ) (at : ℕ) (bytes : List ℕ) (why : Unread) → IsReadUpTo kind area told list places at → at < length area
+    → get_or area at 0 ≡ 1 → bytes ≡ drop (at + 1) area → ReadsNext told new at bytes (Err why) → ReadsFrames (Err why) (frames_of kind area)
+refused_so kind area told new list places at bytes why so less is rest none =
+    refused_at_place kind area told new list places at why so less is (subst (λ (l : List ℕ). ReadsNext told new at l (Err why)) rest none)

@@ -47,6 +47,7 @@ impl Told {
     }
 
     /// Whether the frame fits, and where it does, what it tells is kept.
+    #[tactic(auto, unfolding(crate::specs::Fitting::takes, crate::specs::Fitting::after))]
     pub fn take(&mut self, alloc: Global, frame: &Frame) -> Result<bool, Memory>
         ensures fits { IfOk result (λ fits. fits ≡ takes self.old frame.now) }
         ensures after { IfOk result (λ fits. IsTrue fits → self.new ≡ after self.old frame.now) }

@@ -119,22 +119,28 @@ fn frames_of(alloc: Global, kind: u8, area: &[u8]) -> Result<AreaFrames, Unread>
     let mut frames = Vec::new(alloc);
     let mut places = Vec::new(alloc);
     let mut at = FIRST_GATE;
-    while at < area.len() && area[at] == OPEN {
-        let (frame, size) = next_frame(alloc, &mut told, at, &area[at + 1..])?;
+    while at < area.len() {
+        if area[at] != OPEN {
+            return if told.is_whole() {
+                Ok(AreaFrames {
+                    frames,
+                    places,
+                    end: at,
+                })
+            } else {
+                Err(Unread::At(at))
+            };
+        }
+        let (frame, size) = match next_frame(alloc, &mut told, at, &area[at + 1..]) {
+            Ok(read) => read,
+            Err(unread) => return Err(unread),
+        };
         let (Ok(()), Ok(())) = (frames.push(frame), places.push(at as u64)) else {
             return Err(Unread::Memory);
         };
         at += 1 + size;
     }
-    if at < area.len() && told.is_whole() {
-        Ok(AreaFrames {
-            frames,
-            places,
-            end: at,
-        })
-    } else {
-        Err(Unread::At(at))
-    }
+    Err(Unread::At(at))
 }
 
 /// The frame behind an open gate at an offset, which fits those before it, and how long its spelling is.
@@ -160,6 +166,7 @@ fn next_frame(
 }
 
 /// What two areas of a store of this kind and number spell.
+#[tactic(auto, unfolding(crate::specs::Reading::found))]
 pub fn read_areas(
     alloc: Global,
     kind: u8,
