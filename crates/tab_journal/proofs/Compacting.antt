@@ -201,7 +201,7 @@ other_way kind number fs c d (inr keeps) = inl keeps
 pub flipped : (kind number : ℕ) (P : List Frame → Type 0) (c d : List ℕ) → Tells (Spells kind number) P c d → Tells (Spells kind number) P d c
 flipped kind number P c d tells = record { value = tells.value; spelled = other_way kind number tells.value c d tells.spelled; holds = tells.holds }
 
-since_ordered : {D : Type 0} (w : Watch D) (kind number : ℕ) (P : List Frame → Type 0) (second : Bool) (x y : D) (ta tb : ℕ)
+pub since_ordered : {D : Type 0} (w : Watch D) (kind number : ℕ) (P : List Frame → Type 0) (second : Bool) (x y : D) (ta tb : ℕ)
     → ((c d : List ℕ) → w.left_since x (cond second tb ta) c → w.left_since y (cond second ta tb) d → Tells (Spells kind number) P c d)
     → Since w (Spells kind number) P ta tb (cond second y x) (cond second x y)
 since_ordered w kind number P false x y ta tb each c d c_left d_left = each c d c_left d_left

@@ -14,6 +14,7 @@ mod maps;
 mod ranges;
 mod reading;
 mod refusals;
+mod rewriting;
 mod store;
 #[cfg(test)]
 mod tests;
