@@ -92,7 +92,7 @@ seen_closed w disk shut each = record { closed = each; gate = shut.gate; rest = 
 pub begun : {D : Type 0} (w : Watch D) (disk : D) → ReadsImage w → EachNow w IsClosed disk → IsBuilt w [] disk
 begun w disk reads each = seen_closed w disk (each (w.seen disk) (reads disk)) each
 
-no_pieces : (kind number epoch : ℕ) → header kind number epoch ≡ header kind number epoch ++ opened []
+pub no_pieces : (kind number epoch : ℕ) → header kind number epoch ≡ header kind number epoch ++ opened []
 unfolding opened
 no_pieces kind number epoch = sym (append-nil (header kind number epoch))
 
@@ -100,11 +100,11 @@ pub front_size : (kind number epoch : ℕ) (list : List Frame) → length (front
 unfolding front
 front_size kind number epoch list = omega arith
 
-first_size : (kind number epoch : ℕ) → length (front kind number epoch []) ≡ 20
+pub first_size : (kind number epoch : ℕ) → length (front kind number epoch []) ≡ 20
 unfolding front header opened
 first_size kind number epoch = refl
 
-spare_closed : {D : Type 0} (w : Watch D) (kind number epoch : ℕ) (is_open : Bool) (disk : D) → is_open ≡ false → EachNow w IsClosed disk → IsSpare w kind number epoch is_open disk
+pub spare_closed : {D : Type 0} (w : Watch D) (kind number epoch : ℕ) (is_open : Bool) (disk : D) → is_open ≡ false → EachNow w IsClosed disk → IsSpare w kind number epoch is_open disk
 spare_closed w kind number epoch false disk is each = record { shut = λ e. each; older = λ e. absurd (let none : ⊥ = cc in none) }
 spare_closed w kind number epoch true disk is each = absurd (let none : ⊥ = cc in none)
 

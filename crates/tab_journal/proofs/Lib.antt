@@ -15,3 +15,4 @@ pub mod Reopening
 pub mod Pieces
 pub mod Gates
 pub mod Settling
+pub mod Makes

@@ -6,7 +6,7 @@ use Rattle.tab_outside.specs.Disks.{Watch}
 use Rattle.tab_outside.specs.Pairs.{Tells, Since}
 use Rattle.tab_codec.specs.declared.frames.Frame.{Frame}
 use Rattle.tab_journal.specs.Areas.{Spells}
-use Rattle.tab_journal.specs.Stores.{StoreView, area_a, area_b, HasFrames, HasPieces, KeptSince}
+use Rattle.tab_journal.specs.Stores.{StoreView, area_a, area_b, IsUnmoved, HasFrames, HasPieces, KeptSince}
 use Rattle.tab_journal.proofs.Compacting.{since_ordered}
 
 -- of a store with these frames and no pieces yet, that has so many pieces now
@@ -43,3 +43,16 @@ keeps_more w first now next pieces goes keeps on frames ta tb has built kept =
 -- a piece that is taken from a list
 pub piece_more : (list : List Frame) (i : ℕ) (piece d : Frame) → i < length list → piece ≡ get_or list i d → take (i + 1) list ≡ take i list ++ piece ∷ []
 piece_more list i piece d within is = take_more list i d within ∙ ap (λ (f : Frame). take i list ++ f ∷ []) (sym is)
+
+pub unmoved_then : {D : Type 0} (old mid new : StoreView D) → IsUnmoved old mid → IsUnmoved mid new → IsUnmoved old new
+unmoved_then old mid new first second = record {
+  same = record { kind = second.same.kind ∙ first.same.kind; number = second.same.number ∙ first.same.number };
+  second = second.second ∙ first.second;
+  epoch = second.epoch ∙ first.epoch;
+  end = second.end ∙ first.end;
+  other_open = second.other_open ∙ first.other_open;
+  places = second.places ∙ first.places;
+}
+
+pub unmoved_still : {D : Type 0} (store : StoreView D) → IsUnmoved store store
+unmoved_still store = record { same = record { kind = refl; number = refl }; second = refl; epoch = refl; end = refl; other_open = refl; places = refl }

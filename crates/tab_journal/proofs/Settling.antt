@@ -7,7 +7,7 @@ use Rattle.tab_codec.specs.declared.frames.Frame.{Frame}
 use Rattle.tab_journal.specs.Areas.{Spells}
 use Rattle.tab_journal.specs.Fitting.{Fits}
 use Rattle.tab_journal.specs.Reading.{Found, read_areas}
-use Rattle.tab_journal.specs.Stores.{StoreView, area_a, area_b, IsSameStore, IsFaultAlone, IsFaultOrSpent, StoreCauses, fails_by, HasFrames}
+use Rattle.tab_journal.specs.Stores.{StoreView, area_a, area_b, IsSameStore, IsFaultAlone, IsFaultOrSpent, StoreCauses, fails_by, Answers, HasFrames}
 use Rattle.tab_journal.specs.Keeping.{Sense, GoesOn, IfDoubt, Means, Runs, KeptView, IsSound}
 use Rattle.tab_journal.specs.KeptCauses.{passed_on, AfterChange, AfterSettling, AfterCheckpoint, KeptCauses}
 use Rattle.tab_journal.specs.declared.refusals.StoreRefused.{StoreRefused}
@@ -103,21 +103,21 @@ same_refusal x y e = cc
 abbrev store_refused : {T : Type 0} → StoreRefused → Result T StoreRefused
 store_refused x = Err x
 
-pub causes_pass : {D C S T U : Type 0} (faults : D → ℕ) (old new : KeptView D C S) (refused : StoreRefused) (x : KeptRefused) → x ≡ passed_on refused
+pub causes_pass : {D C S : Type 0} (T U : Type 0) (faults : D → ℕ) (old new : KeptView D C S) (refused : StoreRefused) (x : KeptRefused) → x ≡ passed_on refused
     → StoreCauses {T = U} faults old.store new.store (Err refused) → KeptCauses {T = T} faults old new (Err x)
-causes_pass {T = T} {U = U} faults old new refused x is causes = record {
+causes_pass T U faults old new refused x is causes = record {
   later_a = causes.later_a;
   later_b = causes.later_b;
   fault = λ area e. causes.fault area (ap (store_refused {T = U}) (fault_of refused area (sym is ∙ same_refusal {T = T} x (kept.DiskFault area) e)));
 }
 
-pub change_refused : {D C S T U : Type 0} (sense : Sense C S) (old new : KeptView D C S) (step : S) (refused : StoreRefused) (x : KeptRefused) → x ≡ passed_on refused → IsFaultAlone {T = U} (Err refused)
+pub change_refused : {D C S : Type 0} (T U : Type 0) (sense : Sense C S) (old new : KeptView D C S) (step : S) (refused : StoreRefused) (x : KeptRefused) → x ≡ passed_on refused → IsFaultAlone {T = U} (Err refused)
     → new.held ≡ old.held → new.doubt ≡ Some step → new.failed ≡ true → AfterChange {T = T} sense old new step (Err x)
-change_refused {T = T} sense old new step (store.DiskFault area) x is alone held doubt failed =
+change_refused T U sense old new step (store.DiskFault area) x is alone held doubt failed =
     subst (λ (y : KeptRefused). AfterChange {T = T} sense old new step (Err y)) (sym is) (held, doubt, failed)
-change_refused sense old new step (store.NotAStore area at) x is alone held doubt failed = absurd alone
-change_refused sense old new step store.EpochSpent x is alone held doubt failed = absurd alone
-change_refused sense old new step store.Memory x is alone held doubt failed = absurd alone
+change_refused T U sense old new step (store.NotAStore area at) x is alone held doubt failed = absurd alone
+change_refused T U sense old new step store.EpochSpent x is alone held doubt failed = absurd alone
+change_refused T U sense old new step store.Memory x is alone held doubt failed = absurd alone
 
 pub settling_refused : {D C S : Type 0} (sense : Sense C S) (old new : KeptView D C S) (refused : StoreRefused) (x : KeptRefused) → x ≡ passed_on refused → (refused ≡ store.EpochSpent → ⊥)
     → new.held ≡ old.held → new.doubt ≡ old.doubt → new.failed ≡ true → AfterSettling sense old new (Err x)
@@ -130,13 +130,28 @@ same_kept : {D C S : Type 0} (old : KeptView D C S) (s : StoreView D) → s ≡ 
 same_kept {D = D} old s is failed running =
     ap (λ (b : Bool). record old { store = s; failed = b }) (failed ∙ sym running) ∙ ap (λ (t : StoreView D). record old { store = t }) is
 
-pub checkpoint_refused : {D C S T U : Type 0} (old : KeptView D C S) (s : StoreView D) (refused : StoreRefused) (x : KeptRefused) → x ≡ passed_on refused → IsFaultOrSpent {T = U} (Err refused)
+pub checkpoint_refused : {D C S : Type 0} (T U : Type 0) (old : KeptView D C S) (s : StoreView D) (refused : StoreRefused) (x : KeptRefused) → x ≡ passed_on refused → IsFaultOrSpent {T = U} (Err refused)
     → s.failed ≡ fails_by {T = U} false (Err refused) → old.failed ≡ false → (refused ≡ store.EpochSpent → (s ≡ old.store) × (old.store.epoch ≡ 2 ^ 64 - 1))
     → AfterCheckpoint {T = T} old (record old { store = s; failed = s.failed }) (Err x)
-checkpoint_refused {T = T} old s (store.DiskFault area) x is alone failed running spent =
+checkpoint_refused T U old s (store.DiskFault area) x is alone failed running spent =
     subst (λ (y : KeptRefused). AfterCheckpoint {T = T} old (record old { store = s; failed = s.failed }) (Err y)) (sym is) (refl, refl, failed)
-checkpoint_refused old s (store.NotAStore area at) x is alone failed running spent = absurd alone
-checkpoint_refused {T = T} old s store.EpochSpent x is alone failed running spent =
+checkpoint_refused T U old s (store.NotAStore area at) x is alone failed running spent = absurd alone
+checkpoint_refused T U old s store.EpochSpent x is alone failed running spent =
     let so = spent refl in
     subst (λ (y : KeptRefused). AfterCheckpoint {T = T} old (record old { store = s; failed = s.failed }) (Err y)) (sym is) (same_kept old s so.0 failed running, so.1)
-checkpoint_refused old s store.Memory x is alone failed running spent = absurd alone
+checkpoint_refused T U old s store.Memory x is alone failed running spent = absurd alone
+
+-- ---- a settling that was refused
+
+pub settled_still : {D C S : Type 0} (w : Watch D) (sense : Sense C S) (old new : KeptView D C S) → CountsNow w → OnlyNow w → IsSound w sense old → IsSameStore old.store new.store
+    → AddsNone w (area_a old.store) (area_a new.store) → AddsNone w (area_b old.store) (area_b new.store) → new.held ≡ old.held → new.doubt ≡ old.doubt → new.failed ≡ true → IsSound w sense new
+settled_still {C = C} {S = S} w sense old new counts only sound same none_a none_b held doubt failed =
+    sound_failed w sense new (same.kind ∙ sound.kind) failed
+    (subst (λ (x : C). Now w (Spells new.store.kind new.store.number) (Means sense x new.doubt) (area_a new.store) (area_b new.store)) (sym held)
+    (subst (λ (d : Option S). Now w (Spells new.store.kind new.store.number) (Means sense old.held d) (area_a new.store) (area_b new.store)) (sym doubt)
+    (now_named w (Means sense old.held old.doubt) old.store new.store same
+    (still_now w old.store.kind old.store.number (Means sense old.held old.doubt) (area_a old.store) (area_b old.store) (area_a new.store) (area_b new.store) counts only none_a none_b sound.now))))
+
+pub unread_at : {D : Type 0} (Z : Type 0) (new : StoreView D) (read : Result Found (ℕ × ℕ)) (refused : StoreRefused) (area at : ℕ) → refused ≡ store.NotAStore area at → Answers {Z = Z} new (Err refused) read
+    → read ≡ Err (area, at)
+unread_at Z new read refused area at is answers = subst (λ (r : StoreRefused). Answers {Z = Z} new (Err r) read) is answers

@@ -1,8 +1,10 @@
 -- What making or opening a store answers, and why it is refused.
 use Rattle.std.specs.Prelude.{◌≡◌, ℕ, ◌≤◌, ◌^◌, ◌⊎◌, length, Result, Ok, Err, Vec, vec_items, List}
+use Rattle.std.specs.List.{AllByRecursion}
 use Rattle.tab_outside.specs.Disks.{Watch}
 use Rattle.tab_outside.specs.Faults.{Rose}
 use Rattle.tab_codec.specs.declared.frames.Frame.{Frame}
+use Rattle.tab_codec.specs.Frames.{HasSpelling}
 use Rattle.tab_journal.specs.Areas.{front}
 use Rattle.tab_journal.specs.Steps.{IsShutOn}
 use Rattle.tab_journal.specs.Reading.{Found}
@@ -26,6 +28,7 @@ Opens (Err back) read = (area at : ℕ) → back.refused ≡ NotAStore area at �
 
 -- an area is open with the first epoch and these frames, which end at an offset, and a crash leaves just that
 pub record IsMade {D : Type 0} (w : Watch D) (kind number : ℕ) (frames : List Frame) (end : ℕ) (disk : D) : Type 0 where
+  pub spelled : AllByRecursion HasSpelling frames
   pub shut : IsShutOn w (front kind number 1 frames) disk
   pub size : end ≡ length (front kind number 1 frames)
   pub within : end ≤ 2 ^ 62

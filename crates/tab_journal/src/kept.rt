@@ -179,21 +179,17 @@ impl<D: Disk, C: Content> Kept<D, C> {
         let Some(step) = self.doubt.take() else {
             return Err(self.damaged(frames.len()));
         };
-        match self.held.is_read_with(alloc, &step, &frames) {
-            Ok(true) => {
-                self.held.apply(step);
-                self.failed = false;
-                Ok(true)
-            }
-            Ok(false) => {
-                self.doubt = Some(step);
-                Err(self.damaged(frames.len()))
-            }
-            Err(_) => {
-                self.doubt = Some(step);
-                Err(KeptRefused::Memory)
-            }
+        let Ok(stands) = self.held.is_read_with(alloc, &step, &frames) else {
+            self.doubt = Some(step);
+            return Err(KeptRefused::Memory);
+        };
+        if stands {
+            self.held.apply(step);
+            self.failed = false;
+            return Ok(true);
         }
+        self.doubt = Some(step);
+        Err(self.damaged(frames.len()))
     }
 
     /// The frames that were read end at a place, and stand for something else.

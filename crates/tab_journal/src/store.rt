@@ -1,15 +1,16 @@
 //! A store over two areas: frames are appended to the current one, and a compaction writes the other one anew.
 
-ghost use Rattle.std.specs.Prelude.{get_or, min, not, ◌≡◌, ◌≢◌, ℕ, ◌+◌, ◌-◌, ◌^◌, ◌<◌, ◌≤◌, ◌⊎◌, ◌↔◌, ◌||◌, ◌&&◌, List, [], ◌∷◌, ◌++◌, length, true, false, cond, Some, None, IsTrue, IsFalse, IfOk, IfErr, OnOk, OnErr, Ok, Err, IfSome};
+ghost use Rattle.std.specs.Prelude.{get_or, min, not, ◌==◌, ◌≡◌, ◌≢◌, ℕ, ◌+◌, ◌-◌, ◌^◌, ◌<◌, ◌≤◌, ◌⊎◌, ◌↔◌, ◌||◌, ◌&&◌, List, [], ◌∷◌, ◌++◌, length, true, false, cond, Some, None, IsTrue, IsFalse, IfOk, IfErr, OnOk, OnErr, Ok, Err, IfSome};
 ghost use Rattle.tab_outside.specs.Armed.{after_call, with_fail, with_stop};
 ghost use Rattle.tab_outside.specs.Disks.{LeavesOnly, Rests};
 ghost use Rattle.tab_outside.specs.Faults.{HasCause};
 ghost use Rattle.tab_outside.specs.Pairs.{Extends, AddsNone, Since};
 ghost use Rattle.tab_codec.specs.declared.frames.Frame.{Frame};
+ghost use Rattle.tab_codec.specs.Frames.{AreBytes};
 ghost use Rattle.tab_journal.specs.Areas.{Spells, AreFrames, IsClosed, IsUnder, opened, first_gate};
 ghost use Rattle.tab_journal.specs.Fitting.{Fits};
-ghost use Rattle.tab_journal.specs.Reading.{read_areas};
-ghost use Rattle.tab_journal.specs.Stores.{StoreView, area_a, area_b, current_area, area_of, is_fault, IsFaultOrMemory, IsSameStore, IsUnmoved, StoreCauses, fails_by, IsFaultAlone, IsFaultOrSpent, Answers, adopted, IsSpare, HasFrames, HasPieces, KeptSince, gates_from};
+ghost use Rattle.tab_journal.specs.Reading.{front_of, is_open, read_areas};
+ghost use Rattle.tab_journal.specs.Stores.{StoreView, area_a, area_b, current_area, area_of, is_fault, IsFaultOrMemory, IsSameStore, IsUnmoved, StoreCauses, fails_by, IsFaultAlone, IsFaultOrSpent, ReadsAreas, Answers, adopted, IsSpare, HasFrames, HasPieces, KeptSince, gates_from};
 ghost use Rattle.tab_journal.specs.Steps.{EachNow, Adds};
 ghost use Rattle.tab_journal.specs.declared.refusals.StoreRefused.TheVariants.{DiskFault, EpochSpent};
 
@@ -262,10 +263,23 @@ impl<D: Disk> Store<D> {
             Ok(bytes) => bytes,
             Err(refused) => return Err(self.refused(refused)),
         };
-        match read_areas(alloc, self.kind, self.number, &a, &b) {
+        match self.spelled(alloc, &a, &b) {
             Ok(reading) => Ok(self.adopt(reading)),
             Err(refused) => Err(refused),
         }
+    }
+
+    /// What the bytes of both areas spell in a store of this kind and number.
+    fn spelled(&self, alloc: Global, a: &[u8], b: &[u8]) -> Result<Reading, StoreRefused>
+        ensures read { ReadsAreas result (read_areas self.now.kind self.now.number a.now b.now) }
+        ensures area { IfOk result (λ reading. reading.area ≤ 1) }
+        ensures other { IfOk result (λ reading. reading.other_open ≡ is_open (front_of self.now.kind self.now.number (cond (reading.area == 1) a.now b.now))) }
+        ensures fit_a { AreBytes a.now }
+        ensures fit_b { AreBytes b.now }
+        ensures short_a { length a.now < 2 ^ 64 }
+        ensures short_b { length b.now < 2 ^ 64 }
+    {
+        read_areas(alloc, self.kind, self.number, a, b)
     }
 
     /// Syncs both disks, and reads all bytes of area 0 and of area 1.
@@ -359,7 +373,10 @@ impl<D: Disk> Store<D> {
             → result.1 ≡ first_gate + length (opened frames) }
     {
         let area = if self.second { 1 } else { 0 };
-        (area, self.places.get(frame).copied().unwrap_or(self.end))
+        if frame < self.places.len() {
+            return (area, self.places[frame]);
+        }
+        (area, self.end)
     }
 
     /// Makes the call number `after` from now on the disk of an area fail once; false where the disk has no such thing.
