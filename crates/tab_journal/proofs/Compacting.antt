@@ -92,7 +92,7 @@ seen_closed w disk shut each = record { closed = each; gate = shut.gate; rest = 
 pub begun : {D : Type 0} (w : Watch D) (disk : D) → ReadsImage w → EachNow w IsClosed disk → IsBuilt w [] disk
 begun w disk reads each = seen_closed w disk (each (w.seen disk) (reads disk)) each
 
-no_pieces : (kind number epoch : ℕ) → header kind number epoch ≡ header kind number epoch ++ opened []
+pub no_pieces : (kind number epoch : ℕ) → header kind number epoch ≡ header kind number epoch ++ opened []
 unfolding opened
 no_pieces kind number epoch = sym (append-nil (header kind number epoch))
 
@@ -100,11 +100,11 @@ pub front_size : (kind number epoch : ℕ) (list : List Frame) → length (front
 unfolding front
 front_size kind number epoch list = omega arith
 
-first_size : (kind number epoch : ℕ) → length (front kind number epoch []) ≡ 20
+pub first_size : (kind number epoch : ℕ) → length (front kind number epoch []) ≡ 20
 unfolding front header opened
 first_size kind number epoch = refl
 
-spare_closed : {D : Type 0} (w : Watch D) (kind number epoch : ℕ) (is_open : Bool) (disk : D) → is_open ≡ false → EachNow w IsClosed disk → IsSpare w kind number epoch is_open disk
+pub spare_closed : {D : Type 0} (w : Watch D) (kind number epoch : ℕ) (is_open : Bool) (disk : D) → is_open ≡ false → EachNow w IsClosed disk → IsSpare w kind number epoch is_open disk
 spare_closed w kind number epoch false disk is each = record { shut = λ e. each; older = λ e. absurd (let none : ⊥ = cc in none) }
 spare_closed w kind number epoch true disk is each = absurd (let none : ⊥ = cc in none)
 
@@ -201,7 +201,7 @@ other_way kind number fs c d (inr keeps) = inl keeps
 pub flipped : (kind number : ℕ) (P : List Frame → Type 0) (c d : List ℕ) → Tells (Spells kind number) P c d → Tells (Spells kind number) P d c
 flipped kind number P c d tells = record { value = tells.value; spelled = other_way kind number tells.value c d tells.spelled; holds = tells.holds }
 
-since_ordered : {D : Type 0} (w : Watch D) (kind number : ℕ) (P : List Frame → Type 0) (second : Bool) (x y : D) (ta tb : ℕ)
+pub since_ordered : {D : Type 0} (w : Watch D) (kind number : ℕ) (P : List Frame → Type 0) (second : Bool) (x y : D) (ta tb : ℕ)
     → ((c d : List ℕ) → w.left_since x (cond second tb ta) c → w.left_since y (cond second ta tb) d → Tells (Spells kind number) P c d)
     → Since w (Spells kind number) P ta tb (cond second y x) (cond second x y)
 since_ordered w kind number P false x y ta tb each c d c_left d_left = each c d c_left d_left

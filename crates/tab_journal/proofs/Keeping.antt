@@ -42,11 +42,11 @@ running_now w sense store held doubt runs =
 
 -- ---- after an append
 
-pub step_images : {D C S : Type 0} (w : Watch D) (sense : Sense C S) (kind number : ℕ) (a b a_new b_new : D) (held : C) (step : S) (frames : List Frame)
-    → sense.stands (frames ++ sense.frame_of step ∷ []) (sense.stepped held step) → Extends w (Spells kind number) (λ others. others ≡ frames ++ sense.frame_of step ∷ []) a b a_new b_new
+pub step_images : {D C S : Type 0} (w : Watch D) (sense : Sense C S) (kind number : ℕ) (a b a_new b_new : D) (held : C) (step : S) (gs : List Frame)
+    → sense.stands gs (sense.stepped held step) → Extends w (Spells kind number) (λ others. others ≡ gs) a b a_new b_new
     → Extends w (Spells kind number) (λ others. sense.stands others (sense.stepped held step)) a b a_new b_new
-step_images w sense kind number a b a_new b_new held step frames stand extends =
-    extends_weaker w (Spells kind number) (λ others. others ≡ frames ++ sense.frame_of step ∷ []) (λ others. sense.stands others (sense.stepped held step)) a b a_new b_new
+step_images w sense kind number a b a_new b_new held step gs stand extends =
+    extends_weaker w (Spells kind number) (λ others. others ≡ gs) (λ others. sense.stands others (sense.stepped held step)) a b a_new b_new
     (λ others is. subst (λ (fs : List Frame). sense.stands fs (sense.stepped held step)) (sym is) stand) extends
 
 in_doubt : {C S : Type 0} (sense : Sense C S) (held : C) (step : S) (frames : List Frame) → Means sense held None frames ⊎ sense.stands frames (sense.stepped held step) → Means sense held (Some step) frames

@@ -17,3 +17,8 @@ pub mod Opening
 pub mod Adopting
 pub mod Causes
 pub mod Keeping
+pub mod Reopening
+pub mod Pieces
+pub mod Gates
+pub mod Settling
+pub mod Makes

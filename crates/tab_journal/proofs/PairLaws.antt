@@ -110,10 +110,10 @@ found_so f = Ok f
 abbrev place_so : ℕ × ℕ → Result Found (ℕ × ℕ)
 place_so p = Err p
 
-same_frames : (f g : Found) → found_so f ≡ found_so g → f.frames ≡ g.frames
+pub same_frames : (f g : Found) → found_so f ≡ found_so g → f.frames ≡ g.frames
 same_frames f g e = let same : f ≡ g = cc in ap (λ (x : Found). x.frames) same
 
-not_both : (f : Found) (p : ℕ × ℕ) → found_so f ≡ place_so p → ⊥
+pub not_both : (f : Found) (p : ℕ × ℕ) → found_so f ≡ place_so p → ⊥
 not_both f p e = absurd cc
 
 first_counts : (kind epoch : ℕ) (x y : Front) (in_a in_b : Result (List Frame) ℕ) (list : List Frame) → x ≡ Open epoch → y ≡ Closed → in_a ≡ Ok list → WereFound list (found x y in_a in_b)

@@ -96,7 +96,7 @@ module _ {D : Type 0} (w : Watch D) where
         places = places_more store.places list frame has.places;
       }
 
-  left_alone : (disk : D) → AddsNone w disk disk
+  pub left_alone : (disk : D) → AddsNone w disk disk
   left_alone disk = record { later = omega arith; each = λ t earlier c left. left }
 
   open_too : (kind number epoch : ℕ) (list : List Frame) (frame : Frame) (c : List ℕ) → epoch < 2 ^ 64 → AreFrames kind list → HasSpelling frame → Fits kind list frame

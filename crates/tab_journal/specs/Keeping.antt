@@ -54,12 +54,13 @@ pub record IsSound {D C S : Type 0} (w : Watch D) (sense : Sense C S) (kept : Ke
   pub kind : kept.store.kind ≡ sense.kind
   pub now : Now w (Spells kept.store.kind kept.store.number) (Means sense kept.held kept.doubt) (area_a kept.store) (area_b kept.store)
   pub runs : kept.failed ≡ false → Runs w sense kept.store kept.held
+  pub clear : kept.failed ≡ false → kept.doubt ≡ None
 
 -- the step in doubt stands, or what was held is held still
-abbrev pub AfterSettling : {C S : Type 0} → Sense C S → C → Option S → C → Bool → Type 0
-AfterSettling sense held doubt after false = after ≡ held
-AfterSettling sense held None after true = ⊥
-AfterSettling sense held (Some step) after true = after ≡ sense.stepped held step
+abbrev pub IsSettled : {C S : Type 0} → Sense C S → C → Option S → C → Bool → Type 0
+IsSettled sense held doubt after false = after ≡ held
+IsSettled sense held None after true = ⊥
+IsSettled sense held (Some step) after true = after ≡ sense.stepped held step
 
 -- the store has just the frames of a checkpoint of what is held
 pub record IsRewritten {D C S : Type 0} (w : Watch D) (sense : Sense C S) (kept : KeptView D C S) : Type 0 where

@@ -56,6 +56,7 @@ pub record IsUnmoved {D : Type 0} (old new : StoreView D) : Type 0 where
   pub epoch : new.epoch ≡ old.epoch
   pub end : new.end ≡ old.end
   pub other_open : new.other_open ≡ old.other_open
+  pub places : new.places ≡ old.places
 
 -- ---- causes
 
@@ -83,6 +84,18 @@ abbrev pub IsFaultAlone : {T : Type 0} → Result T StoreRefused → Type 0
 IsFaultAlone (Ok x) = Unit {0}
 IsFaultAlone (Err (DiskFault area)) = Unit {0}
 IsFaultAlone (Err _) = ⊥
+
+-- a compaction is refused by disk faults and by the last epoch alone
+abbrev pub IsFaultOrSpent : {T : Type 0} → Result T StoreRefused → Type 0
+IsFaultOrSpent (Err (NotAStore area at)) = ⊥
+IsFaultOrSpent (Err Memory) = ⊥
+IsFaultOrSpent _ = Unit {0}
+
+-- a call that reads is refused for disk faults and want of memory alone
+abbrev pub IsFaultOrMemory : {T : Type 0} → Result T StoreRefused → Type 0
+IsFaultOrMemory (Err (NotAStore area at)) = ⊥
+IsFaultOrMemory (Err EpochSpent) = ⊥
+IsFaultOrMemory _ = Unit {0}
 
 -- ---- what was read
 
@@ -124,12 +137,13 @@ ReadsAreas (Err (NotAStore area at)) read = read ≡ Err (area, at)
 ReadsAreas (Err Memory) read = Unit {0}
 ReadsAreas (Err _) read = ⊥
 
--- what a call answers that reads both areas: just these frames, or just the first place that has no spelling
-abbrev pub Answers : {Z : Type 0} → Result (Vec Frame Z) StoreRefused → Result Found (ℕ × ℕ) → Type 0
-Answers (Ok frames) read = (area : ℕ) × (epoch : ℕ) × (read ≡ Ok (record { area = area; epoch = epoch; frames = vec_items frames }))
-Answers (Err (NotAStore area at)) read = read ≡ Err (area, at)
-Answers (Err EpochSpent) read = ⊥
-Answers (Err _) read = Unit {0}
+-- what a call answers that reads both areas: just these frames, and the store goes on from the area and the epoch in which they
+-- stand; or just the first place that has no spelling
+abbrev pub Answers : {D : Type 0} {Z : Type 0} → StoreView D → Result (Vec Frame Z) StoreRefused → Result Found (ℕ × ℕ) → Type 0
+Answers new (Ok frames) read = read ≡ Ok (record { area = current_area new; epoch = new.epoch; frames = vec_items frames })
+Answers new (Err (NotAStore area at)) read = read ≡ Err (area, at)
+Answers new (Err EpochSpent) read = ⊥
+Answers new (Err _) read = Unit {0}
 
 -- ---- a store that runs
 

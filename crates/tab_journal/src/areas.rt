@@ -6,6 +6,7 @@ ghost use Rattle.tab_outside.specs.Armed.{after_call};
 ghost use Rattle.tab_outside.specs.Disks.{LeavesOnly};
 ghost use Rattle.tab_outside.specs.Faults.{HasCause};
 ghost use Rattle.tab_codec.specs.Spelling.{spelling};
+ghost use Rattle.tab_codec.specs.Frames.{HasSpelling};
 ghost use Rattle.tab_journal.specs.Areas.{IsClosed};
 ghost use Rattle.tab_journal.specs.Steps.{EachNow, Adds, IsClosedOr, IsShutOn, MayAppend, IsEitherShut, IsBuilt};
 
@@ -83,6 +84,7 @@ pub fn write_piece<D: Disk>(disk: &mut D, at: u64, piece: &Prepared) -> Result<u
     ensures images { D.honest → 1 ≤ at → EachNow D.watch IsClosed disk.old → Adds D.watch IsClosed disk.old disk.new }
     ensures built { D.honest → (built : List ℕ) → IsBuilt D.watch built disk.old → at ≡ 1 + length built
         → OnOk result (IsBuilt D.watch (built ++ 1 ∷ spelling piece.now) disk.new) }
+    ensures spelled { HasSpelling piece.now }
     ensures end { D.honest → IfOk result (λ end. end ≡ at + 1 + length (spelling piece.now)) }
     ensures far { D.honest → IfOk result (λ end. end ≤ 2 ^ 62) }
     ensures stops { D.has_stops disk.new ≡ D.has_stops disk.old }

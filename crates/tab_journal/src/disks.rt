@@ -1,10 +1,10 @@
 //! Reads the whole of two disks, after a sync of both.
 
-ghost use Rattle.std.specs.Prelude.{◌≡◌, ℕ, List, OnOk, IfOk};
+ghost use Rattle.std.specs.Prelude.{◌≡◌, ℕ, List, OnOk, IfOk, Err};
 ghost use Rattle.tab_outside.specs.Disks.{LeavesOnly};
 ghost use Rattle.tab_outside.specs.Faults.{HasCauseFor};
 ghost use Rattle.tab_outside.specs.Pairs.{AddsNone};
-ghost use Rattle.tab_journal.specs.Stores.{HasCauses};
+ghost use Rattle.tab_journal.specs.Stores.{HasCauses, IsFaultOrMemory};
 ghost use Rattle.tab_journal.specs.declared.disks.Lost.TheVariants.{Failed};
 ghost use Rattle.tab_journal.specs.declared.refusals.StoreRefused.TheVariants.{DiskFault};
 
@@ -62,6 +62,7 @@ pub fn read_both<D: Disk>(
     ensures images_b { D.honest → AddsNone D.watch b.old b.new }
     ensures stops_a { D.has_stops a.new ≡ D.has_stops a.old }
     ensures stops_b { D.has_stops b.new ≡ D.has_stops b.old }
+    ensures alone { IsFaultOrMemory result }
     ensures causes { HasCauses D.faults a.old b.old a.new b.new result }
 {
     if a.sync().is_err() {
@@ -82,7 +83,8 @@ pub fn read_both<D: Disk>(
 
 /// What is answered of the disk of an area that was not read.
 fn refusal(lost: Lost, area: u8) -> StoreRefused
-    ensures { (other : ℕ) → result ≡ DiskFault other → (other ≡ area) × (lost ≡ Failed) }
+    ensures fault { (other : ℕ) → result ≡ DiskFault other → (other ≡ area) × (lost ≡ Failed) }
+    ensures alone { IsFaultOrMemory {T = Unit} (Err result) }
 {
     match lost {
         Lost::Failed => StoreRefused::DiskFault { area },

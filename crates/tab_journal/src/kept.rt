@@ -1,12 +1,14 @@
 //! What a store stands for, in memory and on its two disks, with at most one step in doubt.
 
-ghost use Rattle.std.specs.Prelude.{◌≡◌, ◌≢◌, ℕ, ◌-◌, ◌^◌, List, false, true, None, Some, IsTrue, IsFalse, IfOk, IfErr, OnOk, OnErr, IfSome, Ok, Err};
+ghost use Rattle.std.specs.Prelude.{◌≡◌, ℕ, ◌-◌, ◌^◌, ◌≤◌, ◌⊎◌, ◌||◌, ◌&&◌, List, false, true, None, Some, IsTrue, IsFalse, IfOk, IfErr, OnOk, OnErr, IfSome, Ok, Err};
+ghost use Rattle.tab_outside.specs.Armed.{with_fail, with_stop};
 ghost use Rattle.tab_outside.specs.Pairs.{Extends, AddsNone, Since};
+ghost use Rattle.tab_codec.specs.declared.frames.Frame.{Frame};
 ghost use Rattle.tab_journal.specs.Areas.{Spells};
-ghost use Rattle.tab_journal.specs.Stores.{area_a, area_b};
-ghost use Rattle.tab_journal.specs.Keeping.{Sense, GoesOn, ChecksOut, IsSound, IsRewritten, AfterSettling};
-ghost use Rattle.tab_journal.specs.KeptCauses.{KeptCauses};
-ghost use Rattle.tab_journal.specs.declared.kept.KeptRefused.TheVariants.{Damaged, EpochSpent, Memory};
+ghost use Rattle.tab_journal.specs.Stores.{area_a, area_b, area_of, IsSameStore, HasFrames};
+ghost use Rattle.tab_journal.specs.Keeping.{Sense, GoesOn, ChecksOut, IsSound, IsRewritten};
+ghost use Rattle.tab_journal.specs.KeptCauses.{passed_on, AfterChange, AfterSettling, AfterCheckpoint, KeptCauses};
+ghost use Rattle.tab_journal.specs.declared.kept.KeptRefused.TheVariants.{Damaged};
 
 use crate::{Store, StoreRefused};
 use std::alloc::Global;
@@ -73,20 +75,15 @@ pub enum KeptRefused {
     Memory,
 }
 
-impl From<StoreRefused> for KeptRefused {
-    fn from(refused: StoreRefused) -> KeptRefused {
-        match refused {
-            StoreRefused::DiskFault { area } => KeptRefused::DiskFault { area },
-            StoreRefused::NotAStore { area, at } => KeptRefused::Damaged { area, at },
-            StoreRefused::EpochSpent => KeptRefused::EpochSpent,
-            StoreRefused::Memory => KeptRefused::Memory,
-        }
-    }
-}
-
-impl From<Memory> for KeptRefused {
-    fn from(_memory: Memory) -> KeptRefused {
-        KeptRefused::Memory
+/// The refusal of a store, as it is passed on.
+fn passed_on(refused: StoreRefused) -> KeptRefused
+    ensures { result ≡ passed_on refused }
+{
+    match refused {
+        StoreRefused::DiskFault { area } => KeptRefused::DiskFault { area },
+        StoreRefused::NotAStore { area, at } => KeptRefused::Damaged { area, at },
+        StoreRefused::EpochSpent => KeptRefused::EpochSpent,
+        StoreRefused::Memory => KeptRefused::Memory,
     }
 }
 
@@ -114,7 +111,8 @@ impl<D, C: Content> Model for Kept<D, C> {
 impl<D: Disk, C: Content> Kept<D, C> {
     /// A store that runs, and what its frames stand for.
     pub fn new(store: Store<D>, held: C) -> Kept<D, C>
-        ensures { result ≡ record { store = store; held = held; doubt = None; failed = store.failed } }
+        ensures view { result ≡ record { store = store; held = held; doubt = None; failed = store.failed } }
+        ensures sound { D.honest → store.kind ≡ C.sense.kind → (frames : List Frame) → HasFrames D.watch store frames → C.sense.stands frames held → IsSound D.watch C.sense result }
     {
         let failed = store.failed();
         Kept {
@@ -131,23 +129,24 @@ impl<D: Disk, C: Content> Kept<D, C> {
         requires fits { C.sense.fits self.old.held step }
         requires sound { D.honest → IsSound D.watch C.sense self.old }
         ensures sound { D.honest → IsSound D.watch C.sense self.new }
-        ensures ok { OnOk result ((self.new.held ≡ C.sense.stepped self.old.held step) × (self.new.doubt ≡ self.old.doubt) × IsFalse self.new.failed) }
-        ensures err { OnErr result (self.new.held ≡ self.old.held) }
-        ensures memory { result ≡ Err Memory → self.new ≡ self.old }
+        ensures after { AfterChange C.sense self.old self.new step result }
         ensures images { D.honest → Extends D.watch (Spells self.old.store.kind self.old.store.number) (λ frames. C.sense.stands frames (C.sense.stepped self.old.held step))
             (area_a self.old.store) (area_b self.old.store) (area_a self.new.store) (area_b self.new.store) }
+        ensures same { IsSameStore self.old.store self.new.store }
         ensures causes { KeptCauses D.faults self.old self.new result }
     {
-        let prepared = self.held.prepare(alloc, &step)?;
+        let Ok(prepared) = self.held.prepare(alloc, &step) else {
+            return Err(KeptRefused::Memory);
+        };
         match self.store.append(&prepared) {
             Ok(()) => {
                 self.held.apply(step);
                 Ok(())
             }
             Err(refused) => {
-                self.doubt = Some(step);
                 self.failed = true;
-                Err(KeptRefused::from(refused))
+                self.doubt = Some(step);
+                Err(passed_on(refused))
             }
         }
     }
@@ -158,87 +157,72 @@ impl<D: Disk, C: Content> Kept<D, C> {
         requires fits { IfSome self.old.doubt (λ step. C.sense.fits self.old.held step) }
         requires sound { D.honest → IsSound D.watch C.sense self.old }
         ensures sound { D.honest → IsSound D.watch C.sense self.new }
-        ensures ok { IfOk result (λ stood. IsFalse self.new.failed × (self.new.doubt ≡ None) × AfterSettling C.sense self.old.held self.old.doubt self.new.held stood) }
-        ensures err { OnErr result ((self.new.held ≡ self.old.held) × (self.new.doubt ≡ self.old.doubt) × IsTrue self.new.failed) }
+        ensures after { AfterSettling C.sense self.old self.new result }
         ensures never { D.honest → (area at : ℕ) → result ≡ Err (Damaged area at) → ⊥ }
         ensures images_a { D.honest → AddsNone D.watch (area_a self.old.store) (area_a self.new.store) }
         ensures images_b { D.honest → AddsNone D.watch (area_b self.old.store) (area_b self.new.store) }
+        ensures same { IsSameStore self.old.store self.new.store }
         ensures causes { KeptCauses D.faults self.old self.new result }
     {
         let frames = match self.store.reopen(alloc) {
             Ok(frames) => frames,
-            Err(refused) => return Err(KeptRefused::from(refused)),
+            Err(refused) => return Err(passed_on(refused)),
         };
-        if self.held.is_read(alloc, &frames)? {
+        let Ok(is_read) = self.held.is_read(alloc, &frames) else {
+            return Err(KeptRefused::Memory);
+        };
+        if is_read {
             self.doubt = None;
             self.failed = false;
             return Ok(false);
         }
-        match self.doubt.take() {
-            Some(step) => self.settle_with(alloc, step, &frames),
-            None => Err(self.damaged(frames.len())),
-        }
-    }
-
-    /// Whether the frames that were read stand for what is held with the step.
-    fn settle_with(
-        &mut self,
-        alloc: Global,
-        step: C::Step,
-        frames: &[Frame],
-    ) -> Result<bool, KeptRefused> {
-        let stands = match self.held.is_read_with(alloc, &step, frames) {
-            Ok(stands) => stands,
-            Err(memory) => {
-                self.doubt = Some(step);
-                return Err(KeptRefused::from(memory));
-            }
-        };
-        if !stands {
-            self.doubt = Some(step);
+        let Some(step) = self.doubt.take() else {
             return Err(self.damaged(frames.len()));
+        };
+        let Ok(stands) = self.held.is_read_with(alloc, &step, &frames) else {
+            self.doubt = Some(step);
+            return Err(KeptRefused::Memory);
+        };
+        if stands {
+            self.held.apply(step);
+            self.failed = false;
+            return Ok(true);
         }
-        self.held.apply(step);
-        self.failed = false;
-        Ok(true)
+        self.doubt = Some(step);
+        Err(self.damaged(frames.len()))
     }
 
     /// The frames that were read end at a place, and stand for something else.
-    fn damaged(&self, count: usize) -> KeptRefused {
+    fn damaged(&self, count: usize) -> KeptRefused
+        ensures { (area : ℕ) × (at : ℕ) × (result ≡ Damaged area at) }
+    {
         let (area, at) = self.store.place(count);
         KeptRefused::Damaged { area, at }
     }
 
-    /// Rewrites the store to what is held.
+    /// Rewrites the store to what is held. All pieces are prepared before the first write.
     pub fn checkpoint(&mut self, alloc: Global) -> Result<(), KeptRefused>
         requires running { IsFalse self.old.failed }
         requires sound { D.honest → IsSound D.watch C.sense self.old }
         ensures sound { D.honest → IsSound D.watch C.sense self.new }
         ensures ok { D.honest → OnOk result (IsRewritten D.watch C.sense self.new) }
-        ensures held { (self.new.held ≡ self.old.held) × (self.new.doubt ≡ self.old.doubt) }
-        ensures memory { result ≡ Err Memory → self.new ≡ self.old }
-        ensures spent { (result ≡ Err EpochSpent) → self.old.store.epoch ≡ 2 ^ 64 - 1 }
+        ensures after { AfterCheckpoint self.old self.new result }
+        ensures spent { self.old.store.epoch ≡ 2 ^ 64 - 1 → (result ≡ Err KeptRefused.EpochSpent) ⊎ (result ≡ Err KeptRefused.Memory) }
         ensures images { D.honest → Since D.watch (Spells self.old.store.kind self.old.store.number) (λ frames. C.sense.stands frames self.old.held)
             (D.watch.moment (area_a self.old.store)) (D.watch.moment (area_b self.old.store)) (area_a self.new.store) (area_b self.new.store) }
+        ensures same { IsSameStore self.old.store self.new.store }
         ensures causes { KeptCauses D.faults self.old self.new result }
     {
-        let pieces = self.held.pieces(alloc)?;
-        match self.rewrite(&pieces) {
+        let Ok(pieces) = self.held.pieces(alloc) else {
+            return Err(KeptRefused::Memory);
+        };
+        match self.store.rewrite(&pieces) {
             Ok(()) => Ok(()),
             Err(refused) => {
                 self.failed = self.store.failed();
-                Err(KeptRefused::from(refused))
+                Err(passed_on(refused))
             }
         }
-    }
-
-    /// Puts these pieces in the place of the store's frames.
-    fn rewrite(&mut self, pieces: &[Prepared]) -> Result<(), StoreRefused> {
-        self.store.compact_begin()?;
-        for piece in pieces {
-            self.store.compact_piece(piece)?;
-        }
-        self.store.compact_end()
     }
 
     /// Whether the store has to be read anew.
@@ -261,5 +245,19 @@ impl<D: Disk, C: Content> Kept<D, C> {
         ensures b { result.1 ≡ area_b self.store }
     {
         self.store.into_disks()
+    }
+
+    /// Whether a call on one of the disks has met an armed stop.
+    pub fn stopped(&self) -> bool
+        ensures { result ≡ ((D.armed (area_a self.now.store)).stopped || (D.armed (area_b self.now.store)).stopped) }
+    {
+        self.store.stopped()
+    }
+
+    /// Whether both disks have failures and stops, and can be restarted.
+    pub fn has_stops(&self) -> bool
+        ensures { result ≡ (D.has_stops (area_a self.now.store) && D.has_stops (area_b self.now.store)) }
+    {
+        self.store.has_stops()
     }
 }

@@ -16,6 +16,7 @@ mod maps;
 mod ranges;
 mod reading;
 mod refusals;
+mod rewriting;
 mod store;
 #[cfg(test)]
 mod tests;

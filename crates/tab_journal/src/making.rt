@@ -1,17 +1,18 @@
 //! Makes a store on any disks, and opens one that is there.
 
-ghost use Rattle.std.specs.Prelude.{◌≡◌, ◌≤◌, true, false, IfOk, IfErr};
+ghost use Rattle.std.specs.Prelude.{◌≡◌, ◌≤◌, ℕ, true, false, IfOk, IfErr};
 ghost use Rattle.std.specs.List.{AllByRecursion};
 ghost use Rattle.tab_outside.specs.Pairs.{AddsNone};
 ghost use Rattle.tab_codec.specs.Spelling.{body};
 ghost use Rattle.tab_codec.specs.Frames.{IsOrderly, IsShort};
-ghost use Rattle.tab_journal.specs.Areas.{IsClosed};
+ghost use Rattle.tab_journal.specs.Areas.{IsClosed, first_gate};
 ghost use Rattle.tab_journal.specs.Fitting.{takes_all, told_first, told_by, is_whole_store};
 ghost use Rattle.tab_journal.specs.Reading.{read_areas};
 ghost use Rattle.tab_journal.specs.Steps.{EachNow};
-ghost use Rattle.tab_journal.specs.Stores.{area_a, area_b, HasFrames};
+ghost use Rattle.tab_journal.specs.Stores.{area_a, area_b, gates_from, HasFrames};
 ghost use Rattle.tab_journal.specs.Making.{Opens, IsRefusedFor, IsMade};
 ghost use Rattle.tab_outside.specs.Faults.{HasCause, HasCauseFor};
+ghost use Rattle.tab_journal.specs.declared.refusals.StoreRefused.TheVariants.{NotAStore};
 
 use crate::areas::{close_area, open_area, write_closed, write_piece};
 use crate::headers::{FIRST_GATE, header_bytes};
@@ -40,10 +41,11 @@ impl<D: Disk> Store<D> {
         requires fit { takes_all (told_first kind) base.now ≡ true }
         requires whole { is_whole_store (told_by kind base.now) ≡ true }
         ensures ok { D.honest → IfOk result (λ store. HasFrames D.watch store base.now) }
-        ensures is { IfOk result (λ store. (store.kind ≡ kind) × (store.number ≡ number) × (store.epoch ≡ 1) × (store.second ≡ false)) }
+        ensures is { IfOk result (λ store. (store.kind ≡ kind) × (store.number ≡ number) × (store.epoch ≡ 1) × (store.second ≡ false) × (store.failed ≡ false)) }
         ensures memory { IfErr result (λ back. back.refused ≡ StoreRefused.Memory → (back.a ≡ a) × (back.b ≡ b)) }
         ensures causes_ok { IfOk result (λ store. (D.faults a ≤ D.faults (area_a store)) × (D.faults b ≤ D.faults (area_b store))) }
         ensures causes { IfErr result (λ back. IsRefusedFor D.faults a b back) }
+        ensures never { IfErr result (λ back. (area at : ℕ) → back.refused ≡ NotAStore area at → ⊥) }
     {
         let Ok(pieces) = prepared(alloc, base) else {
             return Err(Back {
@@ -75,7 +77,8 @@ impl<D: Disk> Store<D> {
     ) -> Result<(Store<D>, Vec<Frame>), Back<D>>
         ensures ok { D.honest → IfOk result (λ opened. HasFrames D.watch opened.0 opened.1.items
             × AddsNone D.watch a (area_a opened.0) × AddsNone D.watch b (area_b opened.0)) }
-        ensures is { IfOk result (λ opened. (opened.0.kind ≡ kind) × (opened.0.number ≡ number)) }
+        ensures is { IfOk result (λ opened. (opened.0.kind ≡ kind) × (opened.0.number ≡ number) × (opened.0.failed ≡ false)) }
+        ensures places { IfOk result (λ opened. opened.0.places ≡ gates_from first_gate opened.1.items) }
         ensures exact { D.honest → Opens result (read_areas kind number (D.watch.seen a) (D.watch.seen b)) }
         ensures images { D.honest → IfErr result (λ back. AddsNone D.watch a back.a × AddsNone D.watch b back.b) }
         ensures causes { IfErr result (λ back. IsRefusedFor D.faults a b back) }

@@ -1,15 +1,16 @@
 //! A store over two areas: frames are appended to the current one, and a compaction writes the other one anew.
 
-ghost use Rattle.std.specs.Prelude.{get_or, ◌≡◌, ◌≢◌, ℕ, ◌+◌, ◌-◌, ◌^◌, ◌<◌, ◌≤◌, ◌⊎◌, ◌↔◌, ◌||◌, ◌&&◌, List, [], ◌∷◌, ◌++◌, length, true, false, cond, Some, None, IsTrue, IsFalse, IfOk, IfErr, OnOk, OnErr, Ok, Err, IfSome};
+ghost use Rattle.std.specs.Prelude.{get_or, min, not, ◌==◌, ◌≡◌, ◌≢◌, ℕ, ◌+◌, ◌-◌, ◌^◌, ◌<◌, ◌≤◌, ◌⊎◌, ◌↔◌, ◌||◌, ◌&&◌, List, [], ◌∷◌, ◌++◌, length, true, false, cond, Some, None, IsTrue, IsFalse, IfOk, IfErr, OnOk, OnErr, Ok, Err, IfSome};
 ghost use Rattle.tab_outside.specs.Armed.{after_call, with_fail, with_stop};
 ghost use Rattle.tab_outside.specs.Disks.{LeavesOnly, Rests};
 ghost use Rattle.tab_outside.specs.Faults.{HasCause};
 ghost use Rattle.tab_outside.specs.Pairs.{Extends, AddsNone, Since};
 ghost use Rattle.tab_codec.specs.declared.frames.Frame.{Frame};
+ghost use Rattle.tab_codec.specs.Frames.{AreBytes};
 ghost use Rattle.tab_journal.specs.Areas.{Spells, AreFrames, IsClosed, IsUnder, opened, first_gate};
 ghost use Rattle.tab_journal.specs.Fitting.{Fits};
-ghost use Rattle.tab_journal.specs.Reading.{read_areas};
-ghost use Rattle.tab_journal.specs.Stores.{StoreView, area_a, area_b, current_area, area_of, is_fault, IsSameStore, IsUnmoved, StoreCauses, fails_by, IsFaultAlone, Answers, adopted, IsSpare, HasFrames, HasPieces, KeptSince, gates_from};
+ghost use Rattle.tab_journal.specs.Reading.{front_of, is_open, read_areas};
+ghost use Rattle.tab_journal.specs.Stores.{StoreView, area_a, area_b, current_area, area_of, is_fault, IsFaultOrMemory, IsSameStore, IsUnmoved, StoreCauses, fails_by, IsFaultAlone, IsFaultOrSpent, ReadsAreas, Answers, adopted, IsSpare, HasFrames, HasPieces, KeptSince, gates_from};
 ghost use Rattle.tab_journal.specs.Steps.{EachNow, Adds};
 ghost use Rattle.tab_journal.specs.declared.refusals.StoreRefused.TheVariants.{DiskFault, EpochSpent};
 
@@ -70,7 +71,7 @@ impl<D> Model for Store<D> {
 
 impl<D: Disk> Store<D> {
     /// A store with area 0 as its current area, which was made with its first epoch.
-    pub fn made(alloc: Global, a: D, b: D, kind: u8, number: u8, end: u64) -> Store<D>
+    pub(crate) fn made(alloc: Global, a: D, b: D, kind: u8, number: u8, end: u64) -> Store<D>
         ensures { result ≡ record { kind = kind; number = number; current = a; other = b; second = false; epoch = 1; end = end; other_open = false; building = None; places = []; failed = false } }
     {
         Store {
@@ -89,7 +90,7 @@ impl<D: Disk> Store<D> {
     }
 
     /// A store whose areas are not read yet: it counts as failed.
-    pub fn unread(alloc: Global, a: D, b: D, kind: u8, number: u8) -> Store<D>
+    pub(crate) fn unread(alloc: Global, a: D, b: D, kind: u8, number: u8) -> Store<D>
         ensures { result ≡ record { kind = kind; number = number; current = a; other = b; second = false; epoch = 0; end = 0; other_open = false; building = None; places = []; failed = true } }
     {
         Store {
@@ -120,6 +121,8 @@ impl<D: Disk> Store<D> {
         ensures other { self.new.other ≡ self.old.other }
         ensures same { IsSameStore self.old self.new }
         ensures place { self.new.second ≡ self.old.second }
+        ensures epoch { self.new.epoch ≡ self.old.epoch }
+        ensures places { self.new.places ≡ self.old.places }
         ensures fault { IsFaultAlone result }
         ensures failed { self.new.failed ≡ fails_by false result }
         ensures causes { StoreCauses D.faults self.old self.new result }
@@ -142,6 +145,7 @@ impl<D: Disk> Store<D> {
         ensures images { D.honest → (frames : List Frame) → HasFrames D.watch self.old frames
             → KeptSince D.watch self.new frames (D.watch.moment (area_a self.old)) (D.watch.moment (area_b self.old)) }
         ensures begun { OnOk result (self.new.building ≢ None) }
+        ensures alone { IsFaultOrSpent result }
         ensures spent { (result ≡ Err EpochSpent) ↔ (self.old.epoch ≡ 2 ^ 64 - 1) }
         ensures untouched { result ≡ Err EpochSpent → self.new ≡ self.old }
         ensures current { self.new.current ≡ self.old.current }
@@ -217,6 +221,9 @@ impl<D: Disk> Store<D> {
             → KeptSince D.watch self.old frames ta tb
             → Since D.watch (Spells self.old.kind self.old.number) (λ others. (others ≡ frames) ⊎ (others ≡ pieces)) ta tb (area_a self.new) (area_b self.new) }
         ensures same { IsSameStore self.old self.new }
+        ensures epoch { OnOk result (self.new.epoch ≡ min (self.old.epoch + 1) (2 ^ 64 - 1)) }
+        ensures second { OnOk result (self.new.second ≡ not self.old.second) }
+        ensures unmoved { OnErr result (IsUnmoved self.old self.new) }
         ensures fault { IsFaultAlone result }
         ensures failed { self.new.failed ≡ fails_by false result }
         ensures causes { StoreCauses D.faults self.old self.new result }
@@ -239,12 +246,15 @@ impl<D: Disk> Store<D> {
     /// it gives.
     pub fn reopen(&mut self, alloc: Global) -> Result<Vec<Frame>, StoreRefused>
         ensures ok { D.honest → IfOk result (λ frames. HasFrames D.watch self.new frames.items) }
-        ensures exact { D.honest → Answers result
+        ensures exact { D.honest → Answers self.new result
             (read_areas self.old.kind self.old.number (D.watch.seen (area_a self.old)) (D.watch.seen (area_b self.old))) }
         ensures images_a { D.honest → AddsNone D.watch (area_a self.old) (area_a self.new) }
         ensures images_b { D.honest → AddsNone D.watch (area_b self.old) (area_b self.new) }
         ensures same { IsSameStore self.old self.new }
         ensures kept { D.honest → (frames : List Frame) → HasFrames D.watch self.old frames → OnErr result (fails_by false result ≡ false → HasFrames D.watch self.new frames) }
+        ensures unspent { result ≡ Err EpochSpent → ⊥ }
+        ensures places { IfOk result (λ frames. self.new.places ≡ gates_from first_gate frames.items) }
+        ensures unmoved { OnErr result (IsUnmoved self.old self.new) }
         ensures running { OnOk result (IsFalse self.new.failed) }
         ensures failed { OnErr result (self.new.failed ≡ fails_by self.old.failed result) }
         ensures causes { StoreCauses D.faults self.old self.new result }
@@ -253,10 +263,23 @@ impl<D: Disk> Store<D> {
             Ok(bytes) => bytes,
             Err(refused) => return Err(self.refused(refused)),
         };
-        match read_areas(alloc, self.kind, self.number, &a, &b) {
+        match self.spelled(alloc, &a, &b) {
             Ok(reading) => Ok(self.adopt(reading)),
             Err(refused) => Err(refused),
         }
+    }
+
+    /// What the bytes of both areas spell in a store of this kind and number.
+    fn spelled(&self, alloc: Global, a: &[u8], b: &[u8]) -> Result<Reading, StoreRefused>
+        ensures read { ReadsAreas result (read_areas self.now.kind self.now.number a.now b.now) }
+        ensures area { IfOk result (λ reading. reading.area ≤ 1) }
+        ensures other { IfOk result (λ reading. reading.other_open ≡ is_open (front_of self.now.kind self.now.number (cond (reading.area == 1) a.now b.now))) }
+        ensures fit_a { AreBytes a.now }
+        ensures fit_b { AreBytes b.now }
+        ensures short_a { length a.now < 2 ^ 64 }
+        ensures short_b { length b.now < 2 ^ 64 }
+    {
+        read_areas(alloc, self.kind, self.number, a, b)
     }
 
     /// Syncs both disks, and reads all bytes of area 0 and of area 1.
@@ -272,6 +295,7 @@ impl<D: Disk> Store<D> {
         ensures images_a { D.honest → AddsNone D.watch (area_a self.old) (area_a self.new) }
         ensures images_b { D.honest → AddsNone D.watch (area_b self.old) (area_b self.new) }
         ensures view { self.new ≡ record self.old { current = self.new.current; other = self.new.other } }
+        ensures alone { IsFaultOrMemory result }
         ensures causes { StoreCauses D.faults self.old self.new result }
     {
         if self.second {
@@ -349,7 +373,10 @@ impl<D: Disk> Store<D> {
             → result.1 ≡ first_gate + length (opened frames) }
     {
         let area = if self.second { 1 } else { 0 };
-        (area, self.places.get(frame).copied().unwrap_or(self.end))
+        if frame < self.places.len() {
+            return (area, self.places[frame]);
+        }
+        (area, self.end)
     }
 
     /// Makes the call number `after` from now on the disk of an area fail once; false where the disk has no such thing.

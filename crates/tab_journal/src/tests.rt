@@ -269,3 +269,39 @@ fn two_disks_without_a_store_are_refused_at_their_places(rt: HostRuntime) -> Res
     }
     Ok(())
 }
+
+#[test]
+fn a_compaction_that_fails_is_settled_by_a_reopening(rt: HostRuntime) -> Result<(), Fail> {
+    let alloc = rt.alloc();
+    for call in 1..=10_u64 {
+        let mut store = server_store(alloc)?;
+        assert!(rt; store.arm_fail(1, call));
+        let result = compact(alloc, &mut store, 5);
+        assert_eq!(rt; result.is_ok(), call == 10, "{call}");
+        let Ok(frames) = store.reopen(alloc) else {
+            return Err(Fail::new("not reopened"));
+        };
+        // Only the last call, a sync, comes after the area was opened.
+        let due = if call >= 9 { 5 } else { 0 };
+        assert_eq!(rt; told(&frames), (2, Some(due)), "{call}");
+        assert_eq!(rt; compact(alloc, &mut store, 6), Ok(()));
+        assert_eq!(rt; restarted(alloc, store, 0)?, (2, Some(6)));
+    }
+    Ok(())
+}
+
+#[test]
+fn a_store_at_its_last_epoch_is_not_compacted(rt: HostRuntime) -> Result<(), Fail> {
+    let alloc = rt.alloc();
+    let mut a = disk(alloc);
+    let mut b = disk(alloc);
+    let area: &[u8] = b"\x01TABSTORE\x01\x02\x00\xff\xff\xff\xff\xff\xff\xff\xff\x00";
+    assert!(rt; a.write_at(0, area).is_ok() && b.write_at(0, b"\x00").is_ok());
+    let Ok((mut store, frames)) = Store::open_store(alloc, a, b, SERVER_KIND, 0) else {
+        return Err(Fail::new("not opened"));
+    };
+    assert_eq!(rt; frames.len(), 0);
+    assert_eq!(rt; store.compact_begin(), Err(StoreRefused::EpochSpent));
+    assert!(rt; !store.failed());
+    Ok(())
+}
