@@ -157,7 +157,10 @@ fn frames_of_a_server_fit_ranges_that_were_begun(rt: HostRuntime) -> Result<(), 
     let due = [
         false, true, false, true, true, true, false, false, false, true, false, false,
     ];
-    assert_eq!(rt; fitting(alloc, SERVER_KIND, &frames)?.as_slice(), due);
+    assert_eq!(rt;
+        fitting(alloc, SERVER_KIND, &frames)?.as_slice(),
+        due.as_slice()
+    );
     Ok(())
 }
 
@@ -184,7 +187,10 @@ fn frames_of_a_map_fit_its_rows(rt: HostRuntime) -> Result<(), Fail> {
         false, false, false, true, false, false, false, false, false, false, false, true, false,
         true,
     ];
-    assert_eq!(rt; fitting(alloc, MAP_KIND, &frames)?.as_slice(), due);
+    assert_eq!(rt;
+        fitting(alloc, MAP_KIND, &frames)?.as_slice(),
+        due.as_slice()
+    );
     Ok(())
 }
 
@@ -214,7 +220,10 @@ fn frames_of_names_fit_the_tables_that_are_there(rt: HostRuntime) -> Result<(), 
         false, false, false, true, false, false, false, true, true, false, false, false, true,
         false, true, true, false,
     ];
-    assert_eq!(rt; fitting(alloc, NAMES_KIND, &frames)?.as_slice(), due);
+    assert_eq!(rt;
+        fitting(alloc, NAMES_KIND, &frames)?.as_slice(),
+        due.as_slice()
+    );
     Ok(())
 }
 
