@@ -1,0 +1,157 @@
+-- What is known of something kept between two calls, and what its calls answer.
+use Rattle.std.proofs.Common.{◌≡◌, ℕ, ◌-◌, ◌^◌, ◌≤◌, Bool, true, false, cond, Option, Some, None, Result, Ok, Err, List, [], ◌∷◌, ◌++◌, refl, sym, ap, subst, ◌∙◌, inl, inr, arith}
+use Rattle.std.specs.Prelude.{◌⊎◌}
+use Rattle.tab_outside.specs.Disks.{Watch, CountsNow, OnlyNow, ReadsImage}
+use Rattle.tab_outside.specs.Pairs.{Now, Extends, AddsNone}
+use Rattle.tab_codec.specs.declared.frames.Frame.{Frame}
+use Rattle.tab_journal.specs.Areas.{Spells}
+use Rattle.tab_journal.specs.Fitting.{Fits}
+use Rattle.tab_journal.specs.Reading.{Found, read_areas}
+use Rattle.tab_journal.specs.Stores.{StoreView, area_a, area_b, IsSameStore, IsFaultAlone, IsFaultOrSpent, StoreCauses, fails_by, Answers, HasFrames}
+use Rattle.tab_journal.specs.Keeping.{Sense, GoesOn, IfDoubt, Means, Runs, KeptView, IsSound}
+use Rattle.tab_journal.specs.KeptCauses.{passed_on, AfterChange, AfterSettling, AfterCheckpoint, KeptCauses}
+use Rattle.tab_journal.specs.declared.refusals.StoreRefused.{StoreRefused}
+use Rattle.tab_journal.specs.declared.refusals.StoreRefused.TheVariants as store
+use Rattle.tab_journal.specs.declared.kept.KeptRefused.{KeptRefused}
+use Rattle.tab_journal.specs.declared.kept.KeptRefused.TheVariants as kept
+use Rattle.tab_journal.proofs.Fronts.{ReadsBack}
+use Rattle.tab_journal.proofs.PairLaws.{same_frames, not_both, spelled_read}
+use Rattle.tab_journal.proofs.Keeping.{running_now, still_now}
+
+-- ---- soundness
+
+pub sound_running : {D C S : Type 0} (w : Watch D) (sense : Sense C S) (view : KeptView D C S) → view.store.kind ≡ sense.kind → (view.failed ≡ false → view.doubt ≡ None)
+    → Runs w sense view.store view.held → IsSound w sense view
+sound_running w sense view kind clear runs = record { kind = kind; now = running_now w sense view.store view.held view.doubt runs; runs = λ e. runs; clear = clear }
+
+never_false : (b : Bool) → b ≡ true → b ≡ false → ⊥
+never_false b e f = let none : true ≡ false = sym e ∙ f in absurd (let no_way : ⊥ = cc in no_way)
+
+pub sound_failed : {D C S : Type 0} (w : Watch D) (sense : Sense C S) (view : KeptView D C S) → view.store.kind ≡ sense.kind → view.failed ≡ true
+    → Now w (Spells view.store.kind view.store.number) (Means sense view.held view.doubt) (area_a view.store) (area_b view.store) → IsSound w sense view
+sound_failed w sense view kind failed now = record {
+  kind = kind;
+  now = now;
+  runs = λ e. absurd (never_false view.failed failed e);
+  clear = λ e. absurd (never_false view.failed failed e);
+}
+
+pub now_named : {D : Type 0} (w : Watch D) (P : List Frame → Type 0) (old new : StoreView D) → IsSameStore old new → Now w (Spells old.kind old.number) P (area_a new) (area_b new)
+    → Now w (Spells new.kind new.number) P (area_a new) (area_b new)
+now_named w P old new same now =
+    subst (λ (k : ℕ). Now w (Spells k new.number) P (area_a new) (area_b new)) (sym same.kind)
+    (subst (λ (n : ℕ). Now w (Spells old.kind n) P (area_a new) (area_b new)) (sym same.number) now)
+
+-- ---- a step
+
+pub steps_on : {C S : Type 0} (sense : Sense C S) (kind : ℕ) (held : C) (step : S) (list : List Frame) (frame : Frame) → GoesOn sense → kind ≡ sense.kind → frame ≡ sense.frame_of step
+    → sense.fits held step → sense.stands list held → Fits kind list frame × sense.stands (list ++ frame ∷ []) (sense.stepped held step)
+steps_on sense kind held step list frame goes is_kind is_frame fits stand =
+    let on = goes list held step fits stand in (
+      subst (λ (k : ℕ). Fits k list frame) (sym is_kind) (subst (λ (f : Frame). Fits sense.kind list f) (sym is_frame) on.0),
+      subst (λ (f : Frame). sense.stands (list ++ f ∷ []) (sense.stepped held step)) (sym is_frame) on.1,
+    )
+
+-- ---- a reading
+
+-- what is read now is what the images spell: P holds of it
+pub read_holds : {D : Type 0} (reads : ReadsBack) (w : Watch D) (kind number : ℕ) (P : List Frame → Type 0) (a b : D) (list : List Frame) (area epoch : ℕ) → ReadsImage w
+    → Now w (Spells kind number) P a b → read_areas kind number (w.seen a) (w.seen b) ≡ Ok (record { area = area; epoch = epoch; frames = list }) → P list
+read_holds reads w kind number P a b list area epoch image now is =
+    let tells = now (w.seen a) (w.seen b) (image a) (image b) in
+    let x = spelled_read reads kind number tells.value (w.seen a) (w.seen b) tells.spelled in
+    let f : Found = record { area = area; epoch = epoch; frames = list } in
+    subst P (same_frames _ f (sym x.is ∙ is)) tells.holds
+
+pub never_unread : {D : Type 0} (reads : ReadsBack) (w : Watch D) (kind number : ℕ) (P : List Frame → Type 0) (a b : D) (area at : ℕ) → ReadsImage w
+    → Now w (Spells kind number) P a b → read_areas kind number (w.seen a) (w.seen b) ≡ Err (area, at) → ⊥
+never_unread reads w kind number P a b area at image now is =
+    let tells = now (w.seen a) (w.seen b) (image a) (image b) in
+    let x = spelled_read reads kind number tells.value (w.seen a) (w.seen b) tells.spelled in
+    not_both _ (area, at) (sym x.is ∙ is)
+
+pub none_in_doubt : {C S : Type 0} (sense : Sense C S) (held : C) (doubt : Option S) (list : List Frame) → doubt ≡ None → Means sense held doubt list → (sense.stands list held → ⊥) → ⊥
+none_in_doubt sense held None list is (inl stand) not_so = not_so stand
+none_in_doubt sense held None list is (inr none) not_so = none
+none_in_doubt sense held (Some step) list is means not_so = absurd (let none : ⊥ = cc in none)
+
+pub one_in_doubt : {C S : Type 0} (sense : Sense C S) (held : C) (doubt : Option S) (step : S) (list : List Frame) → doubt ≡ Some step → Means sense held doubt list → (sense.stands list held → ⊥)
+    → (sense.stands list (sense.stepped held step) → ⊥) → ⊥
+one_in_doubt sense held doubt step list is (inl stand) not_so nor_so = not_so stand
+one_in_doubt {S = S} sense held doubt step list is (inr in_doubt) not_so nor_so = nor_so (subst (λ (d : Option S). IfDoubt sense held d list) is in_doubt)
+
+-- ---- refusals that are passed on
+
+fault_of : (refused : StoreRefused) (area : ℕ) → passed_on refused ≡ kept.DiskFault area → refused ≡ store.DiskFault area
+fault_of (store.DiskFault other) area e = cc
+fault_of (store.NotAStore other at) area e = absurd (let none : ⊥ = cc in none)
+fault_of store.EpochSpent area e = absurd (let none : ⊥ = cc in none)
+fault_of store.Memory area e = absurd (let none : ⊥ = cc in none)
+
+pub place_of : (refused : StoreRefused) (area at : ℕ) → passed_on refused ≡ kept.Damaged area at → refused ≡ store.NotAStore area at
+place_of (store.DiskFault other) area at e = absurd (let none : ⊥ = cc in none)
+place_of (store.NotAStore other place) area at e = cc
+place_of store.EpochSpent area at e = absurd (let none : ⊥ = cc in none)
+place_of store.Memory area at e = absurd (let none : ⊥ = cc in none)
+
+abbrev refused_so : {T : Type 0} → KeptRefused → Result T KeptRefused
+refused_so x = Err x
+
+pub same_refusal : {T : Type 0} (x y : KeptRefused) → refused_so {T = T} x ≡ refused_so {T = T} y → x ≡ y
+same_refusal x y e = cc
+
+abbrev store_refused : {T : Type 0} → StoreRefused → Result T StoreRefused
+store_refused x = Err x
+
+pub causes_pass : {D C S : Type 0} (T U : Type 0) (faults : D → ℕ) (old new : KeptView D C S) (refused : StoreRefused) (x : KeptRefused) → x ≡ passed_on refused
+    → StoreCauses {T = U} faults old.store new.store (Err refused) → KeptCauses {T = T} faults old new (Err x)
+causes_pass T U faults old new refused x is causes = record {
+  later_a = causes.later_a;
+  later_b = causes.later_b;
+  fault = λ area e. causes.fault area (ap (store_refused {T = U}) (fault_of refused area (sym is ∙ same_refusal {T = T} x (kept.DiskFault area) e)));
+}
+
+pub change_refused : {D C S : Type 0} (T U : Type 0) (sense : Sense C S) (old new : KeptView D C S) (step : S) (refused : StoreRefused) (x : KeptRefused) → x ≡ passed_on refused → IsFaultAlone {T = U} (Err refused)
+    → new.held ≡ old.held → new.doubt ≡ Some step → new.failed ≡ true → AfterChange {T = T} sense old new step (Err x)
+change_refused T U sense old new step (store.DiskFault area) x is alone held doubt failed =
+    subst (λ (y : KeptRefused). AfterChange {T = T} sense old new step (Err y)) (sym is) (held, doubt, failed)
+change_refused T U sense old new step (store.NotAStore area at) x is alone held doubt failed = absurd alone
+change_refused T U sense old new step store.EpochSpent x is alone held doubt failed = absurd alone
+change_refused T U sense old new step store.Memory x is alone held doubt failed = absurd alone
+
+pub settling_refused : {D C S : Type 0} (sense : Sense C S) (old new : KeptView D C S) (refused : StoreRefused) (x : KeptRefused) → x ≡ passed_on refused → (refused ≡ store.EpochSpent → ⊥)
+    → new.held ≡ old.held → new.doubt ≡ old.doubt → new.failed ≡ true → AfterSettling sense old new (Err x)
+settling_refused sense old new (store.DiskFault area) x is unspent held doubt failed = subst (λ (y : KeptRefused). AfterSettling sense old new (Err y)) (sym is) (held, doubt, failed)
+settling_refused sense old new (store.NotAStore area at) x is unspent held doubt failed = subst (λ (y : KeptRefused). AfterSettling sense old new (Err y)) (sym is) (held, doubt, failed)
+settling_refused sense old new store.EpochSpent x is unspent held doubt failed = absurd (unspent refl)
+settling_refused sense old new store.Memory x is unspent held doubt failed = subst (λ (y : KeptRefused). AfterSettling sense old new (Err y)) (sym is) (held, doubt, failed)
+
+same_kept : {D C S : Type 0} (old : KeptView D C S) (s : StoreView D) → s ≡ old.store → s.failed ≡ false → old.failed ≡ false → record old { store = s; failed = s.failed } ≡ old
+same_kept {D = D} old s is failed running =
+    ap (λ (b : Bool). record old { store = s; failed = b }) (failed ∙ sym running) ∙ ap (λ (t : StoreView D). record old { store = t }) is
+
+pub checkpoint_refused : {D C S : Type 0} (T U : Type 0) (old : KeptView D C S) (s : StoreView D) (refused : StoreRefused) (x : KeptRefused) → x ≡ passed_on refused → IsFaultOrSpent {T = U} (Err refused)
+    → s.failed ≡ fails_by {T = U} false (Err refused) → old.failed ≡ false → (refused ≡ store.EpochSpent → (s ≡ old.store) × (old.store.epoch ≡ 2 ^ 64 - 1))
+    → AfterCheckpoint {T = T} old (record old { store = s; failed = s.failed }) (Err x)
+checkpoint_refused T U old s (store.DiskFault area) x is alone failed running spent =
+    subst (λ (y : KeptRefused). AfterCheckpoint {T = T} old (record old { store = s; failed = s.failed }) (Err y)) (sym is) (refl, refl, failed)
+checkpoint_refused T U old s (store.NotAStore area at) x is alone failed running spent = absurd alone
+checkpoint_refused T U old s store.EpochSpent x is alone failed running spent =
+    let so = spent refl in
+    subst (λ (y : KeptRefused). AfterCheckpoint {T = T} old (record old { store = s; failed = s.failed }) (Err y)) (sym is) (same_kept old s so.0 failed running, so.1)
+checkpoint_refused T U old s store.Memory x is alone failed running spent = absurd alone
+
+-- ---- a settling that was refused
+
+pub settled_still : {D C S : Type 0} (w : Watch D) (sense : Sense C S) (old new : KeptView D C S) → CountsNow w → OnlyNow w → IsSound w sense old → IsSameStore old.store new.store
+    → AddsNone w (area_a old.store) (area_a new.store) → AddsNone w (area_b old.store) (area_b new.store) → new.held ≡ old.held → new.doubt ≡ old.doubt → new.failed ≡ true → IsSound w sense new
+settled_still {C = C} {S = S} w sense old new counts only sound same none_a none_b held doubt failed =
+    sound_failed w sense new (same.kind ∙ sound.kind) failed
+    (subst (λ (x : C). Now w (Spells new.store.kind new.store.number) (Means sense x new.doubt) (area_a new.store) (area_b new.store)) (sym held)
+    (subst (λ (d : Option S). Now w (Spells new.store.kind new.store.number) (Means sense old.held d) (area_a new.store) (area_b new.store)) (sym doubt)
+    (now_named w (Means sense old.held old.doubt) old.store new.store same
+    (still_now w old.store.kind old.store.number (Means sense old.held old.doubt) (area_a old.store) (area_b old.store) (area_a new.store) (area_b new.store) counts only none_a none_b sound.now))))
+
+pub unread_at : {D : Type 0} (Z : Type 0) (new : StoreView D) (read : Result Found (ℕ × ℕ)) (refused : StoreRefused) (area at : ℕ) → refused ≡ store.NotAStore area at → Answers {Z = Z} new (Err refused) read
+    → read ≡ Err (area, at)
+unread_at Z new read refused area at is answers = subst (λ (r : StoreRefused). Answers {Z = Z} new (Err r) read) is answers

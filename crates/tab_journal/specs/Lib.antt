@@ -1,0 +1,11 @@
+pub mod Told
+pub mod Begun
+pub mod Fitting
+pub mod Areas
+pub mod Reading
+pub mod NextFrames
+pub mod Steps
+pub mod Stores
+pub mod Making
+pub mod Keeping
+pub mod KeptCauses

@@ -1,0 +1,263 @@
+//! What a store stands for, in memory and on its two disks, with at most one step in doubt.
+
+ghost use Rattle.std.specs.Prelude.{◌≡◌, ℕ, ◌-◌, ◌^◌, ◌≤◌, ◌⊎◌, ◌||◌, ◌&&◌, List, false, true, None, Some, IsTrue, IsFalse, IfOk, IfErr, OnOk, OnErr, IfSome, Ok, Err};
+ghost use Rattle.tab_outside.specs.Armed.{with_fail, with_stop};
+ghost use Rattle.tab_outside.specs.Pairs.{Extends, AddsNone, Since};
+ghost use Rattle.tab_codec.specs.declared.frames.Frame.{Frame};
+ghost use Rattle.tab_journal.specs.Areas.{Spells};
+ghost use Rattle.tab_journal.specs.Stores.{area_a, area_b, area_of, IsSameStore, HasFrames};
+ghost use Rattle.tab_journal.specs.Keeping.{Sense, GoesOn, ChecksOut, IsSound, IsRewritten};
+ghost use Rattle.tab_journal.specs.KeptCauses.{passed_on, AfterChange, AfterSettling, AfterCheckpoint, KeptCauses};
+ghost use Rattle.tab_journal.specs.declared.kept.KeptRefused.TheVariants.{Damaged};
+
+use crate::{Store, StoreRefused};
+use std::alloc::Global;
+use std::marker::Model;
+use tab_codec::{Frame, Prepared};
+use tab_keys::Memory;
+use tab_outside::Disk;
+
+/// What a store's frames stand for.
+pub trait Content: Drop {
+    /// One step of it, which is one frame.
+    type Step: Drop;
+
+    /// Which frames stand for it, and what a step makes of it.
+    ghost sense: { Sense Self Self.Step };
+
+    /// The frame of a step.
+    fn prepare(&self, alloc: Global, step: &Self::Step) -> Result<Prepared, Memory>
+        requires { sense.fits self.now step.now }
+        ensures { IfOk result (λ prepared. prepared ≡ sense.frame_of step.now) };
+
+    /// The frames of a checkpoint.
+    fn pieces(&self, alloc: Global) -> Result<Vec<Prepared>, Memory>
+        ensures { IfOk result (λ pieces. sense.is_checkpoint pieces.items self.now) };
+
+    /// Does a step; this takes no memory.
+    fn apply(&mut self, step: Self::Step)
+        requires { sense.fits self.old step }
+        ensures { self.new ≡ sense.stepped self.old step };
+
+    /// Whether the frames stand for it.
+    fn is_read(&self, alloc: Global, frames: &[Frame]) -> Result<bool, Memory>
+        ensures yes { IfOk result (λ is. IsTrue is → sense.stands frames.now self.now) }
+        ensures no { IfOk result (λ is. IsFalse is → sense.stands frames.now self.now → ⊥) };
+
+    /// Whether they stand for it with the step.
+    fn is_read_with(
+        &self,
+        alloc: Global,
+        step: &Self::Step,
+        frames: &[Frame],
+    ) -> Result<bool, Memory>
+        ensures yes { IfOk result (λ is. IsTrue is → sense.stands frames.now (sense.stepped self.now step.now)) }
+        ensures no { IfOk result (λ is. IsFalse is → sense.stands frames.now (sense.stepped self.now step.now) → ⊥) };
+
+    /// A step's frame goes on from frames that stand for what is held.
+    ghost goes_on: { GoesOn sense };
+
+    /// The frames of a checkpoint stand for what is held.
+    ghost checks_out: { ChecksOut sense };
+}
+
+/// Why a call on something kept was refused.
+#[derive(Clone, Copy, Debug, PartialEq, Eq)]
+pub enum KeptRefused {
+    /// A call on the disk of this area failed.
+    DiskFault { area: u8 },
+    /// The bytes of this area have no spelling at this offset, or the frames end there and stand for something else than
+    /// what was held.
+    Damaged { area: u8, at: u64 },
+    /// The last epoch is reached.
+    EpochSpent,
+    /// No memory was found.
+    Memory,
+}
+
+/// The refusal of a store, as it is passed on.
+fn passed_on(refused: StoreRefused) -> KeptRefused
+    ensures { result ≡ passed_on refused }
+{
+    match refused {
+        StoreRefused::DiskFault { area } => KeptRefused::DiskFault { area },
+        StoreRefused::NotAStore { area, at } => KeptRefused::Damaged { area, at },
+        StoreRefused::EpochSpent => KeptRefused::EpochSpent,
+        StoreRefused::Memory => KeptRefused::Memory,
+    }
+}
+
+/// A content in memory, its store, and at most one step in doubt.
+#[derive(Drop)]
+pub struct Kept<D, C: Content> {
+    store: Store<D>,
+    held: C,
+    doubt: Option<C::Step>,
+    // Whether the store has to be read anew. A store that has failed is always so.
+    failed: bool,
+}
+
+impl<D, C: Content> Model for Kept<D, C> {
+    ghost use Rattle.std.specs.Prelude.{◌≡◌, false};
+    ghost use Rattle.tab_journal.specs.Keeping.{KeptView};
+
+    ghost Value = { KeptView D C C.Step };
+
+    ghost view = { λ kept. record { store = kept.store; held = kept.held; doubt = kept.doubt; failed = kept.failed } };
+
+    ghost invariant = { λ kept. kept.failed ≡ false → kept.store.failed ≡ false };
+}
+
+impl<D: Disk, C: Content> Kept<D, C> {
+    /// A store that runs, and what its frames stand for.
+    pub fn new(store: Store<D>, held: C) -> Kept<D, C>
+        ensures view { result ≡ record { store = store; held = held; doubt = None; failed = store.failed } }
+        ensures sound { D.honest → store.kind ≡ C.sense.kind → (frames : List Frame) → HasFrames D.watch store frames → C.sense.stands frames held → IsSound D.watch C.sense result }
+    {
+        let failed = store.failed();
+        Kept {
+            store,
+            held,
+            doubt: None,
+            failed,
+        }
+    }
+
+    /// Does a step: on the disks, and then in memory.
+    pub fn change(&mut self, alloc: Global, step: C::Step) -> Result<(), KeptRefused>
+        requires running { IsFalse self.old.failed }
+        requires fits { C.sense.fits self.old.held step }
+        requires sound { D.honest → IsSound D.watch C.sense self.old }
+        ensures sound { D.honest → IsSound D.watch C.sense self.new }
+        ensures after { AfterChange C.sense self.old self.new step result }
+        ensures images { D.honest → Extends D.watch (Spells self.old.store.kind self.old.store.number) (λ frames. C.sense.stands frames (C.sense.stepped self.old.held step))
+            (area_a self.old.store) (area_b self.old.store) (area_a self.new.store) (area_b self.new.store) }
+        ensures same { IsSameStore self.old.store self.new.store }
+        ensures causes { KeptCauses D.faults self.old self.new result }
+    {
+        let Ok(prepared) = self.held.prepare(alloc, &step) else {
+            return Err(KeptRefused::Memory);
+        };
+        match self.store.append(&prepared) {
+            Ok(()) => {
+                self.held.apply(step);
+                Ok(())
+            }
+            Err(refused) => {
+                self.failed = true;
+                self.doubt = Some(step);
+                Err(passed_on(refused))
+            }
+        }
+    }
+
+    /// Reads the store anew, and answers whether the step in doubt stands.
+    pub fn settle(&mut self, alloc: Global) -> Result<bool, KeptRefused>
+        requires failed { IsTrue self.old.failed }
+        requires fits { IfSome self.old.doubt (λ step. C.sense.fits self.old.held step) }
+        requires sound { D.honest → IsSound D.watch C.sense self.old }
+        ensures sound { D.honest → IsSound D.watch C.sense self.new }
+        ensures after { AfterSettling C.sense self.old self.new result }
+        ensures never { D.honest → (area at : ℕ) → result ≡ Err (Damaged area at) → ⊥ }
+        ensures images_a { D.honest → AddsNone D.watch (area_a self.old.store) (area_a self.new.store) }
+        ensures images_b { D.honest → AddsNone D.watch (area_b self.old.store) (area_b self.new.store) }
+        ensures same { IsSameStore self.old.store self.new.store }
+        ensures causes { KeptCauses D.faults self.old self.new result }
+    {
+        let frames = match self.store.reopen(alloc) {
+            Ok(frames) => frames,
+            Err(refused) => return Err(passed_on(refused)),
+        };
+        let Ok(is_read) = self.held.is_read(alloc, &frames) else {
+            return Err(KeptRefused::Memory);
+        };
+        if is_read {
+            self.doubt = None;
+            self.failed = false;
+            return Ok(false);
+        }
+        let Some(step) = self.doubt.take() else {
+            return Err(self.damaged(frames.len()));
+        };
+        let Ok(stands) = self.held.is_read_with(alloc, &step, &frames) else {
+            self.doubt = Some(step);
+            return Err(KeptRefused::Memory);
+        };
+        if stands {
+            self.held.apply(step);
+            self.failed = false;
+            return Ok(true);
+        }
+        self.doubt = Some(step);
+        Err(self.damaged(frames.len()))
+    }
+
+    /// The frames that were read end at a place, and stand for something else.
+    fn damaged(&self, count: usize) -> KeptRefused
+        ensures { (area : ℕ) × (at : ℕ) × (result ≡ Damaged area at) }
+    {
+        let (area, at) = self.store.place(count);
+        KeptRefused::Damaged { area, at }
+    }
+
+    /// Rewrites the store to what is held. All pieces are prepared before the first write.
+    pub fn checkpoint(&mut self, alloc: Global) -> Result<(), KeptRefused>
+        requires running { IsFalse self.old.failed }
+        requires sound { D.honest → IsSound D.watch C.sense self.old }
+        ensures sound { D.honest → IsSound D.watch C.sense self.new }
+        ensures ok { D.honest → OnOk result (IsRewritten D.watch C.sense self.new) }
+        ensures after { AfterCheckpoint self.old self.new result }
+        ensures spent { self.old.store.epoch ≡ 2 ^ 64 - 1 → (result ≡ Err KeptRefused.EpochSpent) ⊎ (result ≡ Err KeptRefused.Memory) }
+        ensures images { D.honest → Since D.watch (Spells self.old.store.kind self.old.store.number) (λ frames. C.sense.stands frames self.old.held)
+            (D.watch.moment (area_a self.old.store)) (D.watch.moment (area_b self.old.store)) (area_a self.new.store) (area_b self.new.store) }
+        ensures same { IsSameStore self.old.store self.new.store }
+        ensures causes { KeptCauses D.faults self.old self.new result }
+    {
+        let Ok(pieces) = self.held.pieces(alloc) else {
+            return Err(KeptRefused::Memory);
+        };
+        match self.store.rewrite(&pieces) {
+            Ok(()) => Ok(()),
+            Err(refused) => {
+                self.failed = self.store.failed();
+                Err(passed_on(refused))
+            }
+        }
+    }
+
+    /// Whether the store has to be read anew.
+    pub fn failed(&self) -> bool
+        ensures { result ≡ self.now.failed }
+    {
+        self.failed
+    }
+
+    /// What is held in memory.
+    pub fn held(&self) -> &C
+        ensures { result.now ≡ self.now.held }
+    {
+        &self.held
+    }
+
+    /// The disks of area 0 and of area 1.
+    pub fn into_disks(self) -> (D, D)
+        ensures a { result.0 ≡ area_a self.store }
+        ensures b { result.1 ≡ area_b self.store }
+    {
+        self.store.into_disks()
+    }
+
+    /// Whether a call on one of the disks has met an armed stop.
+    pub fn stopped(&self) -> bool
+        ensures { result ≡ ((D.armed (area_a self.now.store)).stopped || (D.armed (area_b self.now.store)).stopped) }
+    {
+        self.store.stopped()
+    }
+
+    /// Whether both disks have failures and stops, and can be restarted.
+    pub fn has_stops(&self) -> bool
+        ensures { result ≡ (D.has_stops (area_a self.now.store) && D.has_stops (area_b self.now.store)) }
+    {
+        self.store.has_stops()
+    }
+}
