@@ -1,6 +1,6 @@
 -- Values and properties as fields.
 use Rattle.std.proofs.Common.{◌≡◌, ℕ, zero, suc, ◌+◌, ◌*◌, ◌^◌, ◌<◌, Bool, true, false, cond, ◌&&◌, List, [], ◌∷◌, length, refl, sym, ap, subst, arith, lit<}
-use Rattle.std.specs.Prelude.{ℤ, FitsSigned, nat_le, ◌==◌}
+use Rattle.std.specs.Prelude.{ℤ, FitsSigned, All, nat_le, ◌==◌}
 use Rattle.std.specs.Int.{w32, w64, to_be_bytes, cast_signed, cast_unsigned}
 use Rattle.std.specs.Str.{is_utf8}
 use Rattle.std.proofs.lemmas.Bool.Decides.{nat_tests}
@@ -13,7 +13,7 @@ use Rattle.tab_edm.specs.declared.values.Property.{Property}
 use Rattle.tab_edm.specs.declared.TheConstants.{GREATEST}
 use Rattle.tab_codec.specs.Spelling.{sized, value_spelling, property_spelling}
 use Rattle.tab_codec.specs.Reading.{Counted, name_rises, is_property_name, value_of, value_within, value_at, property_name_at, property_at}
-use Rattle.tab_codec.proofs.FieldLaws.{IsField, bind_field, last_field, allowing_field, same_field, field32, field64, bytes_field, sized_field}
+use Rattle.tab_codec.proofs.FieldLaws.{IsField, bind_field, last_field, allowing_field, same_field, field32, field64, sized_field, raw_field, raw_sized_field}
 use Rattle.tab_codec.proofs.KeyLaws.{case_field}
 
 -- ---- the parts of a value
@@ -75,8 +75,8 @@ FitsType (suc (suc zero)) v = IsCase 0 1 (flag_of v) × (Flag (flag_of v == 1) �
 FitsType (suc (suc (suc zero))) v = (int32_of v < 2 ^ 32) × (Int32 (cast_signed w32 (int32_of v)) ≡ v)
 FitsType (suc (suc (suc (suc zero)))) v = (int64_of v < 2 ^ 64) × (Int64 (cast_signed w64 (int64_of v)) ≡ v)
 FitsType (suc (suc (suc (suc (suc zero))))) v = ((tick_of v < 2 ^ 64) × (nat_le (tick_of v) GREATEST ≡ true)) × (Moment (tick_of v) ≡ v)
-FitsType (suc (suc (suc (suc (suc (suc zero)))))) v = (length (guid_of v) ≡ 16) × (Guid (guid_of v) ≡ v)
-FitsType _ v = (length (bytes_of v) < 2 ^ 32) × (Bytes (bytes_of v) ≡ v)
+FitsType (suc (suc (suc (suc (suc (suc zero)))))) v = ((length (guid_of v) ≡ 16) × All (λ b. b < 256) (guid_of v)) × (Guid (guid_of v) ≡ v)
+FitsType _ v = ((length (bytes_of v) < 2 ^ 32) × All (λ b. b < 256) (bytes_of v)) × (Bytes (bytes_of v) ≡ v)
 
 flag_back : (b : ℕ) → IsCase 0 1 b → cond (b == 1) 1 0 ≡ b
 flag_back b h = grind (arith, nat_tests)
@@ -97,9 +97,9 @@ is_of_type (suc (suc (suc (suc zero)))) h = same_field (last_field (λ n. Int64 
     (λ v f. (subst (λ w. to_be_bytes w64 (int64_of w) ≡ behind_type w) f.1 refl, (f, ap type_of (sym f.1)))) (λ v f. f.0)
 is_of_type (suc (suc (suc (suc (suc zero))))) h = same_field (last_field (λ n. Moment n) tick_of (λ _ _. refl) (allowing_field (λ tick. nat_le tick GREATEST) field64))
     (λ v f. (subst (λ w. to_be_bytes w64 (tick_of w) ≡ behind_type w) f.1 refl, (f, ap type_of (sym f.1)))) (λ v f. f.0)
-is_of_type (suc (suc (suc (suc (suc (suc zero)))))) h = same_field (last_field (λ b. Guid b) guid_of (λ _ _. refl) (bytes_field 16))
+is_of_type (suc (suc (suc (suc (suc (suc zero)))))) h = same_field (last_field (λ b. Guid b) guid_of (λ _ _. refl) (raw_field 16))
     (λ v f. (subst (λ w. guid_of w ≡ behind_type w) f.1 refl, (f, ap type_of (sym f.1)))) (λ v f. f.0)
-is_of_type (suc (suc (suc (suc (suc (suc (suc zero))))))) h = same_field (last_field (λ b. Bytes b) bytes_of (λ _ _. refl) sized_field)
+is_of_type (suc (suc (suc (suc (suc (suc (suc zero))))))) h = same_field (last_field (λ b. Bytes b) bytes_of (λ _ _. refl) raw_sized_field)
     (λ v f. (subst (λ w. sized (bytes_of w) ≡ behind_type w) f.1 refl, (f, ap type_of (sym f.1)))) (λ v f. f.0)
 is_of_type (suc (suc (suc (suc (suc (suc (suc (suc n)))))))) h = absurd (above_seven n h)
 
@@ -112,8 +112,8 @@ IsTyped (Flag flag) = Unit {0}
 IsTyped (Int32 number) = FitsSigned w32 number
 IsTyped (Int64 number) = FitsSigned w64 number
 IsTyped (Moment tick) = (tick < 2 ^ 64) × (nat_le tick GREATEST ≡ true)
-IsTyped (Guid bytes) = length bytes ≡ 16
-IsTyped (Bytes bytes) = length bytes < 2 ^ 32
+IsTyped (Guid bytes) = (length bytes ≡ 16) × All (λ b. b < 256) bytes
+IsTyped (Bytes bytes) = (length bytes < 2 ^ 32) × All (λ b. b < 256) bytes
 
 abbrev pub is_within : ℕ → Value → Bool
 is_within size v = is_small v && nat_le (size + value_size v) 1_048_576

@@ -3,7 +3,9 @@ use Rattle.std.proofs.Common.{◌≡◌, ℕ, zero, suc, ◌+◌, ◌^◌, ◌<�
 use Rattle.std.specs.List.{flat_map}
 use Rattle.std.specs.Int.{Width, w16, w32, w64, byte_len, from_be_bytes, to_be_bytes}
 use Rattle.std.proofs.lemmas.Bool.{cases_lt, ltb-false, le-ltb}
-use Rattle.std.proofs.lemmas.List.{take_at, drop_at, take-append-drop, length-append, length-take, get_or-drop, get_or-take, get_or_past}
+use Rattle.std.proofs.lemmas.List.{take_at, drop_at, take-append-drop, length-append, length-take, get_or-drop, get_or-take, get_or_past, get_or_append_left}
+use Rattle.std.proofs.lemmas.List.Elements.{All-from_get_or}
+use Rattle.std.specs.List.{All}
 use Rattle.std.proofs.lemmas.List.Concat.{flat_map-cons}
 use Rattle.std.proofs.lemmas.Nat.{be_bytes_2, be_bytes_4, be_bytes_8, from_be_bytes-to_be_bytes_2, from_be_bytes-to_be_bytes_4, from_be_bytes-to_be_bytes_8}
 use Rattle.tab_codec.specs.Spelling.{sized}
@@ -19,6 +21,16 @@ take_bytes n bytes h i =
       | inl lt ↦ rw (get_or-take n bytes i 0 lt) (h i)
       | inr le ↦ rw (get_or_past (take n bytes) i 0 (omega (arith, length-take n bytes))) (omega arith)
     ]
+
+pub front_bytes : (a b : List ℕ) → AreBytes (a ++ b) → AreBytes a
+front_bytes a b h i =
+    elim (cases_lt i (length a)) [
+      | inl lt ↦ rw (← get_or_append_left a b 0 i lt) (h i)
+      | inr le ↦ rw (get_or_past a i 0 le) (omega arith)
+    ]
+
+pub all_bytes : (bytes : List ℕ) → AreBytes bytes → All (λ b. b < 256) bytes
+all_bytes bytes h = All-from_get_or (λ b. b < 256) bytes 0 (λ i within. omega (arith, h i))
 
 -- the value of a step that did not fail
 pub bind_ok : {A B : Type 0} (r : Result A ℕ) (f : A → Result B ℕ) (y : B) → (r >>= f) ≡ Ok y → (x : A) × (r ≡ Ok x) × (f x ≡ Ok y)
@@ -134,6 +146,16 @@ same_field {A} {read} {spell} {spell_so} {Fits} {FitsSo} one so back = record {
       let h = so x.0 s.fits in
       record { parts = s.parts ∙ ap (λ (w : List ℕ). w ++ x.1) h.0; rest = s.rest; fits = h.1 };
   again = λ a rest h. rw (← (so a (back a h)).0) (one.again a rest (back a h));
+}
+
+-- the same field, with what its spelling shows, which is of bytes
+pub shown_field : {A : Type 0} {read : List ℕ → Read A} {spell : A → List ℕ} {Fits Shown : A → Type 0} → ((a : A) → AreBytes (spell a) → Shown a) → IsField read spell Fits
+    → IsField read spell (λ a. Fits a × Shown a)
+shown_field {A} {read} {spell} {Fits} {Shown} shows one = record {
+  takes = λ bytes x fits e.
+      let s = one.takes bytes x fits e in
+      record { parts = s.parts; rest = s.rest; fits = (s.fits, shows x.0 (front_bytes (spell x.0) x.1 (subst (λ (w : List ℕ). AreBytes w) s.parts fits))) };
+  again = λ a rest h. one.again a rest h.0;
 }
 
 -- a reader whose value is made of the parts that it read: what is made was spelled so, and parts that fit are read again
@@ -315,3 +337,11 @@ sized_field = record {
       let long : ltb (length (b ++ rest)) (length b) ≡ false = le-ltb _ _ (omega (arith, length-append b rest)) in
       rw (append_assoc (to_be_bytes w32 (length b)) b rest, field32.again (length b) (b ++ rest) lt, long, take_at b rest (length b) refl, drop_at b rest (length b) refl) refl;
 }
+
+-- the items of bytes that are read are bytes
+pub raw_field : (count : ℕ) → IsField (bytes_at count) (λ b. b) (λ b. (length b ≡ count) × All (λ x. x < 256) b)
+raw_field count = shown_field all_bytes (bytes_field count)
+
+pub raw_sized_field : IsField sized_at sized (λ b. (length b < 2 ^ 32) × All (λ x. x < 256) b)
+unfolding sized
+raw_sized_field = shown_field (λ b h. all_bytes b (λ i. h (suc (suc (suc (suc i)))))) sized_field

@@ -21,7 +21,8 @@ use Rattle.tab_keys.specs.declared.keys.Key.{Key}
 use Rattle.tab_keys.specs.declared.bounds.Bound.{Bound}
 use Rattle.tab_keys.specs.declared.bounds.Bound.TheVariants.{At, End}
 use Rattle.tab_codec.specs.Spelling.{sized, key_spelling, bound_spelling, span_spelling}
-use Rattle.tab_codec.specs.Frames.{AreBytes, IsKey, IsBound, IsSpan}
+use Rattle.tab_keys.specs.Keys.{IsKey}
+use Rattle.tab_codec.specs.Frames.{AreBytes, IsBound, IsSpan}
 use Rattle.tab_codec.specs.Reading.{case_at, is_key_text, key_text_at, table_rises, partition_rises, key_rises, row_key_at, key_at, may_rise, bound_table_rises, bound_rises, partition_at, bound_of, bound_at, span_from, span_at}
 use Rattle.tab_codec.proofs.FieldLaws.{Took, IsField, done, ok_is, bind_field, last_field, allowing_field, same_field, byte_field, field64, sized_field}
 

@@ -13,10 +13,10 @@ use Rattle.tab_keys.specs.TotalOrders.{key_cmp_total}
 use Rattle.tab_keys.specs.declared.keys.Key.{Key}
 use Rattle.tab_keys.specs.declared.bounds.Bound.{Bound}
 use Rattle.tab_keys.specs.declared.bounds.Bound.TheVariants.{At, End}
-use Rattle.tab_rows.specs.Rows.{RowView}
+use Rattle.tab_rows.specs.Rows.{RowView, IsKept}
 use Rattle.tab_codec.specs.declared.frames.RangeRow.{RangeRow}
 use Rattle.tab_codec.specs.Spelling.{sized, bound_spelling, span_spelling, range_row_spelling, name_spelling}
-use Rattle.tab_codec.specs.Frames.{IsBound, IsKept, IsRangeRow, IsTable}
+use Rattle.tab_codec.specs.Frames.{IsBound, IsRangeRow, IsTable}
 use Rattle.tab_codec.specs.Reading.{Read, allowing, bound_rises, bound_at, table_falls, low_falls, low_bound_at, range_row_at, is_table_name, table_name_at, number_rises, name_at}
 use Rattle.tab_codec.proofs.FieldLaws.{IsField, bind_field, last_field, allowing_field, same_field, byte_field, field64, sized_field}
 use Rattle.tab_codec.proofs.KeyLaws.{IsBoundAbove, bound_table_goes_on, both_true, none_is, bound_field, span_from_field}

@@ -1,26 +1,27 @@
 -- Entities, rows and changes as fields.
 use Rattle.std.proofs.Common.{◌≡◌, ℕ, zero, suc, ◌+◌, ◌*◌, ◌^◌, ◌<◌, ◌≤◌, Bool, true, false, cond, ltb, ◌&&◌, List, [], ◌∷◌, length, Option, Some, None, refl, sym, ap, subst, arith, lit<}
-use Rattle.std.specs.Prelude.{IsFalse, IsUtf8, nat_le, sum_by}
+use Rattle.std.specs.Prelude.{All, IsFalse, IsUtf8, nat_le, sum_by}
 use Rattle.std.specs.List.{AllByRecursion}
 use Rattle.std.specs.Option.{option_map, option_or}
 use Rattle.std.proofs.lemmas.Bool.Decides.{nat_tests}
-use Rattle.std.proofs.lemmas.List.Elements.{recursion_from_All}
+use Rattle.std.proofs.lemmas.List.Elements.{recursion_from_All, All-from_recursion}
 use Rattle.std.proofs.lemmas.List.Sums.{sum_by-cons}
 use Rattle.std.proofs.lemmas.Str.{IsUtf8-from_is_utf8, is_utf8-from_IsUtf8}
 use Rattle.tab_keys.specs.KeyTexts.{units_of}
 use Rattle.tab_keys.specs.declared.keys.Key.{Key}
 use Rattle.tab_edm.specs.Texts.{unit_count, char_count}
-use Rattle.tab_edm.specs.Values.{is_valid_name, is_reserved, is_small, value_size, property_size, IsInTime}
+use Rattle.tab_edm.specs.Values.{is_valid_name, is_reserved, is_small, value_size, property_size, IsInTime, IsValue, IsProperty}
 use Rattle.tab_edm.specs.Entities.{EntityView, IsEntity, IsRising, property_refusal, first_refusal, entity_size, entity_refusal}
 use Rattle.tab_edm.specs.declared.values.Value.{Value}
 use Rattle.tab_edm.specs.declared.values.Value.TheVariants.{Text, Flag, Int32, Int64, Moment, Guid, Bytes}
 use Rattle.tab_edm.specs.declared.values.Property.{Property}
 use Rattle.tab_edm.specs.declared.TheConstants.{GREATEST}
-use Rattle.tab_rows.specs.Rows.{RowView}
+use Rattle.tab_rows.specs.Rows.{RowView, IsKept}
 use Rattle.tab_rows.specs.declared.changes.Change.{Change}
 use Rattle.tab_rows.specs.declared.changes.Change.TheVariants.{Put, Take}
 use Rattle.tab_codec.specs.Spelling.{properties_spelling, key_spelling, row_spelling, change_spelling}
-use Rattle.tab_codec.specs.Frames.{IsKey, IsValue, IsProperty, IsKept, IsChange}
+use Rattle.tab_keys.specs.Keys.{IsKey}
+use Rattle.tab_codec.specs.Frames.{IsChange}
 use Rattle.tab_codec.specs.Reading.{Counted, name_rises, is_property_name, count_on, entity_at, key_rises, row_at, change_of, change_at}
 use Rattle.tab_codec.proofs.FieldLaws.{IsField, FitsAll, bind_field, last_field, allowing_field, same_field, variant_field, items_field, field16, field64}
 use Rattle.tab_codec.proofs.KeyLaws.{IsKeyAbove, key_field, case_field, few_units, bytes_at_most}
@@ -30,17 +31,17 @@ use Rattle.tab_codec.proofs.EntityFacts.{make_entity, each}
 
 -- ---- what the types keep of properties, from what was read and back
 
-utf8_of : (v : Value) → IsTyped v → IsValue v
-utf8_of (Text t) h = IsUtf8-from_is_utf8 t h.1
-utf8_of (Flag b) h = tt
-utf8_of (Int32 n) h = h
-utf8_of (Int64 n) h = h
-utf8_of (Moment tick) h = h.0
-utf8_of (Guid bytes) h = h
-utf8_of (Bytes bytes) h = tt
+value_of : (v : Value) → IsTyped v → IsValue v
+value_of (Text t) h = IsUtf8-from_is_utf8 t h.1
+value_of (Flag b) h = tt
+value_of (Int32 n) h = h
+value_of (Int64 n) h = h
+value_of (Moment tick) h = h.0
+value_of (Guid bytes) h = h
+value_of (Bytes bytes) h = h.1
 
 property_of : (c : Counted) (p : Property) → IsNext c p → IsProperty p
-property_of c p h = record { name = IsUtf8-from_is_utf8 p.name h.utf8; value = utf8_of p.value h.value.typed }
+property_of c p h = record { name = IsUtf8-from_is_utf8 p.name h.utf8; value = value_of p.value h.value.typed }
 
 units_long : (text : List ℕ) → IsUtf8 text → length text ≤ 3 * unit_count text
 unfolding unit_count
@@ -64,7 +65,7 @@ typed_of (Moment tick) h time small = (h, le_test tick GREATEST time)
 typed_of (Guid bytes) h time small = h
 typed_of (Bytes bytes) h time small =
     let few : length bytes ≤ 65_536 = le_from (length bytes) 65_536 small in
-    omega arith
+    (omega arith, h)
 
 -- a property that breaks no limit
 record IsSound (p : Property) : Type 0 where
@@ -141,7 +142,7 @@ pub record IsMade (pk rk : ℕ) (e : EntityView) : Type 0 where
   pub pk_units : e.pk_units ≡ pk
   pub rk_units : e.rk_units ≡ rk
   pub entity : IsEntity e.pk_units e.rk_units e.properties
-  pub values : AllByRecursion IsProperty e.properties
+  pub properties : All IsProperty e.properties
 
 record IsWithinLimits (pk_units rk_units : ℕ) (ps : List Property) : Type 0 where
   refusals : first_refusal ps ≡ None
@@ -166,12 +167,12 @@ limits_of pk_units rk_units ps e =
 pub few_properties : (pk_units rk_units : ℕ) (ps : List Property) → IsEntity pk_units rk_units ps → length ps ≤ 252
 few_properties pk_units rk_units ps h = (limits_of pk_units rk_units ps h.allowed).few
 
-entity_next : (pk_units rk_units : ℕ) (ps : List Property) → IsEntity pk_units rk_units ps → AllByRecursion IsProperty ps → (length ps ≤ 252) × FitsAll count_on IsNext (record { name = None; size = 4 + 2 * (pk_units + rk_units) }) ps
+entity_next : (pk_units rk_units : ℕ) (ps : List Property) → IsEntity pk_units rk_units ps → All IsProperty ps → (length ps ≤ 252) × FitsAll count_on IsNext (record { name = None; size = 4 + 2 * (pk_units + rk_units) }) ps
 unfolding entity_size
-entity_next pk_units rk_units ps h values =
+entity_next pk_units rk_units ps h typed =
     let limits = limits_of pk_units rk_units ps h.allowed in
     let first : Rises None ps = elim ps as (λ xs. Rises None xs) [ [] ↦ tt | x ∷ xs ↦ refl ] in
-    (limits.few, next_properties (record { name = None; size = 4 + 2 * (pk_units + rk_units) }) ps first h.rising values (recursion_from_All _ ps h.unreserved) (recursion_from_All _ ps h.in_time) limits.refusals limits.small)
+    (limits.few, next_properties (record { name = None; size = 4 + 2 * (pk_units + rk_units) }) ps first h.rising (recursion_from_All IsProperty ps typed) (recursion_from_All _ ps h.unreserved) (recursion_from_All _ ps h.in_time) limits.refusals limits.small)
 
 pub entity_field : (pk_units rk_units : ℕ) → pk_units ≤ 1024 → rk_units ≤ 1024 → IsField (entity_at pk_units rk_units) (λ e. properties_spelling e.properties) (IsMade pk_units rk_units)
 unfolding entity_at properties_spelling
@@ -192,11 +193,11 @@ entity_field pk_units rk_units pk rk =
         pk_units = sym pk_same;
         rk_units = sym rk_same;
         entity = subst (λ n. IsEntity e.pk_units n e.properties) rk_same (subst (λ n. IsEntity n rk_units e.properties) pk_same entity);
-        values = each IsProperty none e.properties property_of h.1.0.1;
+        properties = All-from_recursion IsProperty e.properties (each IsProperty none e.properties property_of h.1.0.1);
       },
     ))
     (λ e h.
-    let n = entity_next pk_units rk_units e.properties (subst (λ n. IsEntity pk_units n e.properties) h.rk_units (subst (λ n. IsEntity n e.rk_units e.properties) h.pk_units h.entity)) h.values in
+    let n = entity_next pk_units rk_units e.properties (subst (λ n. IsEntity pk_units n e.properties) h.rk_units (subst (λ n. IsEntity n e.rk_units e.properties) h.pk_units h.entity)) h.properties in
     ((omega (arith, n.0), le_test (length e.properties) 252 n.0), ((refl, n.1), rw (← h.pk_units, ← h.rk_units) refl)))
 
 -- ---- rows and changes
@@ -222,7 +223,7 @@ row_field before = same_field
           key = h.0.key;
           row = record { in_time = le_from r.tick GREATEST h.1.0.1; pk_units = h.1.1.0.pk_units; rk_units = h.1.1.0.rk_units };
           entity = h.1.1.0.entity;
-          values = h.1.1.0.values;
+          properties = h.1.1.0.properties;
         };
         above = h.0.above;
       },
@@ -231,7 +232,7 @@ row_field before = same_field
       record { key = h.row.key; above = h.above },
       (
         (omega (arith, h.row.row.in_time), le_test r.tick GREATEST h.row.row.in_time),
-        (record { pk_units = h.row.row.pk_units; rk_units = h.row.row.rk_units; entity = h.row.entity; values = h.row.values }, refl),
+        (record { pk_units = h.row.row.pk_units; rk_units = h.row.row.rk_units; entity = h.row.entity; properties = h.row.properties }, refl),
       ),
     ))
 

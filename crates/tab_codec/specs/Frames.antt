@@ -1,19 +1,14 @@
 -- Which frames have a spelling: what their parts are, and their limits and orders.
-use Rattle.std.specs.Prelude.{◌≡◌, ◌≤◌, ◌<◌, ◌^◌, ◌++◌, ◌∷◌, [], ℕ, List, length, IsTrue, AllPairs, IsUtf8, FitsSigned, slice_index}
+use Rattle.std.specs.Prelude.{◌≡◌, ◌≤◌, ◌<◌, ◌^◌, ◌++◌, ◌∷◌, [], ℕ, List, length, IsTrue, AllPairs, IsUtf8, slice_index}
 use Rattle.std.specs.List.{AllByRecursion}
-use Rattle.std.specs.Int.{w32, w64}
 use Rattle.tab_keys.specs.KeyTexts.{IsKeyText}
+use Rattle.tab_keys.specs.Keys.{IsKey}
 use Rattle.tab_keys.specs.TableNames.{IsTableName}
 use Rattle.tab_keys.specs.Order.{bound_lt}
 use Rattle.tab_keys.specs.Spans.{Interval}
-use Rattle.tab_keys.specs.declared.keys.Key.{Key}
 use Rattle.tab_keys.specs.declared.bounds.Bound.{Bound}
 use Rattle.tab_keys.specs.declared.bounds.Bound.TheVariants.{At, End}
-use Rattle.tab_edm.specs.declared.values.Value.{Value}
-use Rattle.tab_edm.specs.declared.values.Value.TheVariants.{Text, Flag, Int32, Int64, Moment, Guid, Bytes}
-use Rattle.tab_edm.specs.declared.values.Property.{Property}
-use Rattle.tab_edm.specs.Entities.{IsEntity}
-use Rattle.tab_rows.specs.Rows.{RowView, IsRow, AreRising}
+use Rattle.tab_rows.specs.Rows.{IsKept, AreRising}
 use Rattle.tab_rows.specs.declared.changes.Change.{Change}
 use Rattle.tab_rows.specs.declared.changes.Change.TheVariants.{Put, Take}
 use Rattle.tab_codec.specs.declared.frames.RangeRow.{RangeRow}
@@ -24,11 +19,6 @@ use Rattle.tab_codec.specs.Spelling.{body, spelling}
 abbrev pub AreBytes : List ℕ → Type 0
 AreBytes bytes = (i : ℕ) → slice_index bytes i < 2 ^ 8
 
-pub record IsKey (key : Key) : Type 0 where
-  pub table : key.table < 2 ^ 64
-  pub pk : IsKeyText key.pk
-  pub rk : IsKeyText key.rk
-
 abbrev pub IsBound : Bound → Type 0
 IsBound (At table pk) = (table < 2 ^ 64) × IsKeyText pk
 IsBound End = Unit {0}
@@ -37,27 +27,6 @@ pub record IsSpan (span : Interval) : Type 0 where
   pub lo : IsBound span.lo
   pub hi : IsBound span.hi
   pub ordered : IsTrue (bound_lt span.lo span.hi)
-
--- the values of the seven types
-abbrev pub IsValue : Value → Type 0
-IsValue (Text text) = IsUtf8 text
-IsValue (Flag flag) = Unit {0}
-IsValue (Int32 number) = FitsSigned w32 number
-IsValue (Int64 number) = FitsSigned w64 number
-IsValue (Moment tick) = tick < 2 ^ 64
-IsValue (Guid bytes) = length bytes ≡ 16
-IsValue (Bytes bytes) = Unit {0}
-
-pub record IsProperty (property : Property) : Type 0 where
-  pub name : IsUtf8 property.name
-  pub value : IsValue property.value
-
--- a row: its entity was made for its keys, within the limits of entities
-pub record IsKept (kept : RowView) : Type 0 where
-  pub key : IsKey kept.key
-  pub row : IsRow kept.key kept.entity kept.tick
-  pub entity : IsEntity kept.entity.pk_units kept.entity.rk_units kept.entity.properties
-  pub values : AllByRecursion IsProperty kept.entity.properties
 
 abbrev pub IsChange : Change → Type 0
 IsChange (Put row) = IsKept row

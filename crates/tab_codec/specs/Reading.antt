@@ -19,6 +19,8 @@ use Rattle.tab_edm.specs.Entities.{EntityView}
 use Rattle.tab_edm.specs.declared.values.Value.{Value}
 use Rattle.tab_edm.specs.declared.values.Value.TheVariants.{Text, Flag, Int32, Int64, Moment, Guid, Bytes}
 use Rattle.tab_edm.specs.declared.values.Property.{Property}
+use Rattle.tab_edm.specs.declared.values.TheConstants.{MOST_NAME_CHARACTERS}
+use Rattle.tab_edm.specs.declared.entities.TheConstants.{MOST_PROPERTIES, MOST_SIZE}
 use Rattle.tab_edm.specs.declared.TheConstants.{GREATEST}
 use Rattle.tab_rows.specs.Rows.{RowView}
 use Rattle.tab_rows.specs.declared.changes.Change.{Change}
@@ -180,7 +182,7 @@ name_rises None name = true
 name_rises (Some before) name = is_lt (slice_cmp nat_cmp before name)
 
 abbrev pub is_property_name : List ℕ → Bool
-is_property_name name = is_valid_name name && nat_le (char_count name) 255 && not (is_reserved name)
+is_property_name name = is_valid_name name && nat_le (char_count name) MOST_NAME_CHARACTERS && not (is_reserved name)
 
 -- the value behind the byte of its type, which is 1 to 7
 unfoldable pub value_of : ℕ → List ℕ → Read Value
@@ -208,7 +210,7 @@ value_of _ bytes = do
 
 -- a value within the limit of its kind, of an entity that counts for so much with all that stands before the value
 unfoldable pub value_within : ℕ → ℕ → List ℕ → Read Value
-value_within size type bytes = allowing (λ value. is_small value && nat_le (size + value_size value) 1_048_576) (value_of type) bytes
+value_within size type bytes = allowing (λ value. is_small value && nat_le (size + value_size value) MOST_SIZE) (value_of type) bytes
 
 unfoldable pub value_at : ℕ → List ℕ → Read Value
 value_at size bytes = do
@@ -231,7 +233,7 @@ count_on counted property = record { name = Some property.name; size = counted.s
 -- the entity of a row whose keys have these numbers of units
 unfoldable pub entity_at : ℕ → ℕ → List ℕ → Read EntityView
 entity_at pk_units rk_units bytes = do
-  count ← allowing (λ count. nat_le count 252) (number_at w16) bytes
+  count ← allowing (λ count. nat_le count MOST_PROPERTIES) (number_at w16) bytes
   properties ← items_at property_at count_on (record { name = None; size = 4 + 2 * (pk_units + rk_units) }) count.0 count.1
   Ok (record { properties = properties.0; pk_units = pk_units; rk_units = rk_units }, properties.1)
 

@@ -5,6 +5,7 @@ ghost use Rattle.std.specs.Option.{option_map, option_copied};
 ghost use Rattle.std.specs.Int.{w16};
 ghost use Rattle.tab_edm.specs.Texts.{unit_count};
 ghost use Rattle.tab_edm.specs.Values.{is_reserved, value_size, property_size};
+ghost use Rattle.tab_edm.specs.declared.entities.TheConstants.{MOST_PROPERTIES, MOST_SIZE};
 ghost use Rattle.tab_edm.specs.declared.values.Property.{Property};
 ghost use Rattle.tab_rows.specs.Rows.{RowView};
 ghost use Rattle.tab_codec.specs.Reading.{Gives, allowing, number_at, is_property_name, name_rises, value_within, value_at, property_name_at, property_at, count_on, items_at, entity_at, row_at};
@@ -16,25 +17,11 @@ use crate::keys::read_key;
 use crate::stops::Stop;
 use std::alloc::Global;
 use tab_edm::{
-    BytesValue, Entity, Property, TextValue, Value, char_count, is_identifier, unit_count,
+    BytesValue, Entity, MOST_BINARY_BYTES, MOST_NAME_CHARACTERS, MOST_PROPERTIES, MOST_SIZE,
+    MOST_TEXT_UNITS, Property, TextValue, Value, char_count, is_identifier, unit_count,
 };
 use tab_keys::Key;
 use tab_rows::Row;
-
-/// The most properties of an entity.
-const MOST_PROPERTIES: u16 = 252;
-
-/// The most bytes that an entity counts for.
-const LARGEST_ENTITY: usize = 1_048_576;
-
-/// The most characters of a property's name.
-const LONGEST_NAME: usize = 255;
-
-/// The most UTF-16 code units of a text.
-const LONGEST_TEXT: usize = 32_768;
-
-/// The most bytes of a value of bytes.
-const MOST_BYTES: usize = 65_536;
 
 /// The row above the one before.
 #[tactic(auto, using(crate::proofs::KeyLaws::few_units), unfolding(crate::specs::Reading::row_at))]
@@ -76,7 +63,7 @@ fn read_entity(
     let (count, rest) = read_property_count(bytes)?;
     let size = 4 + 2 * (pk_units + rk_units);
     let (properties, rest) = read_properties(alloc, size, count, rest)?;
-    match Entity::new(pk_units, rk_units, properties) {
+    match Entity::new(alloc, pk_units, rk_units, properties) {
         Ok(entity) => Ok((entity, rest)),
         Err(_) => Err(Stop::Memory),
     }
@@ -84,10 +71,10 @@ fn read_entity(
 
 #[tactic(auto, unfolding(crate::specs::Reading::allowing))]
 fn read_property_count(bytes: &[u8]) -> Result<(u16, &[u8]), Stop>
-    ensures { Gives (λ x. (x.0, x.1.now)) result (allowing (λ count. nat_le count 252) (number_at w16) bytes.now) }
+    ensures { Gives (λ x. (x.0, x.1.now)) result (allowing (λ count. nat_le count MOST_PROPERTIES) (number_at w16) bytes.now) }
 {
     let (count, rest) = read_u16(bytes)?;
-    if count <= MOST_PROPERTIES {
+    if count as usize <= MOST_PROPERTIES {
         Ok((count, rest))
     } else {
         Err(Stop::Broken(bytes.len()))
@@ -101,7 +88,7 @@ fn read_properties(
     count: u16,
     bytes: &[u8],
 ) -> Result<(Vec<Property>, &[u8]), Stop>
-    requires { size ≤ 1_048_576 }
+    requires { size ≤ MOST_SIZE }
     ensures { Gives (λ x. (x.0.items, x.1.now)) result (items_at property_at count_on (record { name = None; size = size }) count bytes.now) }
 {
     let mut properties = Vec::new(alloc);
@@ -124,10 +111,10 @@ fn read_property<'a>(
     size: usize,
     bytes: &'a [u8],
 ) -> Result<(Property, usize, &'a [u8]), Stop>
-    requires { size ≤ 1_048_576 }
+    requires { size ≤ MOST_SIZE }
     ensures read { Gives (λ x. (x.0, x.2.now)) result
         (property_at (record { name = option_map (λ (p : Property). p.name) (option_copied before.entry); size = size }) bytes.now) }
-    ensures size { IfOk result (λ x. (x.1 ≡ size + property_size x.0) × (x.1 ≤ 1_048_576)) }
+    ensures size { IfOk result (λ x. (x.1 ≡ size + property_size x.0) × (x.1 ≤ MOST_SIZE)) }
 {
     let (name, rest) = read_property_name(before, bytes)?;
     let size = size + (8 + 2 * unit_count(name));
@@ -155,7 +142,7 @@ fn read_property_name<'a>(
 fn is_property_name(name: &str) -> bool
     ensures { result ≡ is_property_name name.now }
 {
-    is_identifier(name) && char_count(name) <= LONGEST_NAME && !is_reserved(name)
+    is_identifier(name) && char_count(name) <= MOST_NAME_CHARACTERS && !is_reserved(name)
 }
 
 fn is_reserved(name: &str) -> bool
@@ -178,7 +165,7 @@ fn name_rises(before: Option<&Property>, name: &str) -> bool
 fn read_value(alloc: Global, size: usize, bytes: &[u8]) -> Result<(Value, usize, &[u8]), Stop>
     requires { size ≤ 1_100_000 }
     ensures read { Gives (λ x. (x.0, x.2.now)) result (value_at size bytes.now) }
-    ensures size { IfOk result (λ x. (x.1 ≡ size + value_size x.0) × (x.1 ≤ 1_048_576)) }
+    ensures size { IfOk result (λ x. (x.1 ≡ size + value_size x.0) × (x.1 ≤ MOST_SIZE)) }
 {
     let (which, rest) = read_case(1, 7, bytes)?;
     match which {
@@ -198,10 +185,10 @@ fn grown(size: usize, value: usize, left: usize) -> Result<usize, Stop>
     requires size { size ≤ 1_100_000 }
     requires value { value ≤ 1_100_000 }
     ensures { MatchResult result
-        (λ grown. (grown ≡ size + value) × (grown ≤ 1_048_576))
-        (λ stop. (stop ≡ Stop.Broken left) × (1_048_576 < size + value)) }
+        (λ grown. (grown ≡ size + value) × (grown ≤ MOST_SIZE))
+        (λ stop. (stop ≡ Stop.Broken left) × (MOST_SIZE < size + value)) }
 {
-    if size + value <= LARGEST_ENTITY {
+    if (size + value) as u128 <= MOST_SIZE {
         Ok(size + value)
     } else {
         Err(Stop::Broken(left))
@@ -212,11 +199,11 @@ fn grown(size: usize, value: usize, left: usize) -> Result<usize, Stop>
 fn read_text_value(alloc: Global, size: usize, bytes: &[u8]) -> Result<(Value, usize, &[u8]), Stop>
     requires { size ≤ 1_100_000 }
     ensures read { Gives (λ x. (x.0, x.2.now)) result (value_within size 1 bytes.now) }
-    ensures size { IfOk result (λ x. (x.1 ≡ size + value_size x.0) × (x.1 ≤ 1_048_576)) }
+    ensures size { IfOk result (λ x. (x.1 ≡ size + value_size x.0) × (x.1 ≤ MOST_SIZE)) }
 {
     let (text, rest) = read_text(bytes)?;
     let units = unit_count(text);
-    if units > LONGEST_TEXT {
+    if units > MOST_TEXT_UNITS {
         return Err(Stop::Broken(bytes.len()));
     }
     let size = grown(size, 4 + 2 * units, bytes.len())?;
@@ -228,7 +215,7 @@ fn read_text_value(alloc: Global, size: usize, bytes: &[u8]) -> Result<(Value, u
 fn read_flag(size: usize, bytes: &[u8]) -> Result<(Value, usize, &[u8]), Stop>
     requires { size ≤ 1_100_000 }
     ensures read { Gives (λ x. (x.0, x.2.now)) result (value_within size 2 bytes.now) }
-    ensures size { IfOk result (λ x. (x.1 ≡ size + value_size x.0) × (x.1 ≤ 1_048_576)) }
+    ensures size { IfOk result (λ x. (x.1 ≡ size + value_size x.0) × (x.1 ≤ MOST_SIZE)) }
 {
     let (flag, rest) = read_case(0, 1, bytes)?;
     let size = grown(size, 1, bytes.len())?;
@@ -239,7 +226,7 @@ fn read_flag(size: usize, bytes: &[u8]) -> Result<(Value, usize, &[u8]), Stop>
 fn read_int32(size: usize, bytes: &[u8]) -> Result<(Value, usize, &[u8]), Stop>
     requires { size ≤ 1_100_000 }
     ensures read { Gives (λ x. (x.0, x.2.now)) result (value_within size 3 bytes.now) }
-    ensures size { IfOk result (λ x. (x.1 ≡ size + value_size x.0) × (x.1 ≤ 1_048_576)) }
+    ensures size { IfOk result (λ x. (x.1 ≡ size + value_size x.0) × (x.1 ≤ MOST_SIZE)) }
 {
     let (number, rest) = read_u32(bytes)?;
     let size = grown(size, 4, bytes.len())?;
@@ -250,7 +237,7 @@ fn read_int32(size: usize, bytes: &[u8]) -> Result<(Value, usize, &[u8]), Stop>
 fn read_int64(size: usize, bytes: &[u8]) -> Result<(Value, usize, &[u8]), Stop>
     requires { size ≤ 1_100_000 }
     ensures read { Gives (λ x. (x.0, x.2.now)) result (value_within size 4 bytes.now) }
-    ensures size { IfOk result (λ x. (x.1 ≡ size + value_size x.0) × (x.1 ≤ 1_048_576)) }
+    ensures size { IfOk result (λ x. (x.1 ≡ size + value_size x.0) × (x.1 ≤ MOST_SIZE)) }
 {
     let (number, rest) = read_u64(bytes)?;
     let size = grown(size, 8, bytes.len())?;
@@ -261,7 +248,7 @@ fn read_int64(size: usize, bytes: &[u8]) -> Result<(Value, usize, &[u8]), Stop>
 fn read_moment(size: usize, bytes: &[u8]) -> Result<(Value, usize, &[u8]), Stop>
     requires { size ≤ 1_100_000 }
     ensures read { Gives (λ x. (x.0, x.2.now)) result (value_within size 5 bytes.now) }
-    ensures size { IfOk result (λ x. (x.1 ≡ size + value_size x.0) × (x.1 ≤ 1_048_576)) }
+    ensures size { IfOk result (λ x. (x.1 ≡ size + value_size x.0) × (x.1 ≤ MOST_SIZE)) }
 {
     let (tick, rest) = read_tick(bytes)?;
     let size = grown(size, 8, bytes.len())?;
@@ -272,7 +259,7 @@ fn read_moment(size: usize, bytes: &[u8]) -> Result<(Value, usize, &[u8]), Stop>
 fn read_guid_value(size: usize, bytes: &[u8]) -> Result<(Value, usize, &[u8]), Stop>
     requires { size ≤ 1_100_000 }
     ensures read { Gives (λ x. (x.0, x.2.now)) result (value_within size 6 bytes.now) }
-    ensures size { IfOk result (λ x. (x.1 ≡ size + value_size x.0) × (x.1 ≤ 1_048_576)) }
+    ensures size { IfOk result (λ x. (x.1 ≡ size + value_size x.0) × (x.1 ≤ MOST_SIZE)) }
 {
     let (guid, rest) = read_guid(bytes)?;
     let size = grown(size, 16, bytes.len())?;
@@ -283,10 +270,10 @@ fn read_guid_value(size: usize, bytes: &[u8]) -> Result<(Value, usize, &[u8]), S
 fn read_bytes_value(alloc: Global, size: usize, bytes: &[u8]) -> Result<(Value, usize, &[u8]), Stop>
     requires { size ≤ 1_100_000 }
     ensures read { Gives (λ x. (x.0, x.2.now)) result (value_within size 7 bytes.now) }
-    ensures size { IfOk result (λ x. (x.1 ≡ size + value_size x.0) × (x.1 ≤ 1_048_576)) }
+    ensures size { IfOk result (λ x. (x.1 ≡ size + value_size x.0) × (x.1 ≤ MOST_SIZE)) }
 {
     let (value, rest) = read_sized(bytes)?;
-    if value.len() > MOST_BYTES {
+    if value.len() > MOST_BINARY_BYTES {
         return Err(Stop::Broken(bytes.len()));
     }
     let size = grown(size, 4 + value.len(), bytes.len())?;

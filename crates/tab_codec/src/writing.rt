@@ -6,7 +6,9 @@ ghost use Rattle.std.specs.Int.{w16, w32, w64, to_be_bytes};
 ghost use Rattle.tab_edm.specs.declared.values.Value.{Value};
 ghost use Rattle.tab_codec.specs.declared.frames.Frame.TheVariants as frames;
 ghost use Rattle.tab_codec.specs.Spelling.{sized, bound_spelling, span_spelling, key_spelling, value_spelling, property_spelling, properties_spelling, row_spelling, change_spelling, range_row_spelling, name_spelling, body};
-ghost use Rattle.tab_codec.specs.Frames.{IsKey, IsBound, IsSpan, IsValue, IsProperty, IsKept, IsChange, IsRangeRow, IsTable, IsShort, IsOrderly, HasParts};
+ghost use Rattle.tab_keys.specs.Keys.{IsKey};
+ghost use Rattle.tab_rows.specs.Rows.{IsKept};
+ghost use Rattle.tab_codec.specs.Frames.{IsBound, IsSpan, IsChange, IsRangeRow, IsTable, IsShort, IsOrderly, HasParts};
 
 use crate::{Frame, RangeRow};
 use std::alloc::AllocError;
@@ -82,8 +84,7 @@ fn put_key(out: &mut Vec<u8>, key: &Key) -> Result<(), AllocError>
 #[tactic(auto, unfolding(crate::specs::Spelling::value_spelling))]
 fn put_value(out: &mut Vec<u8>, value: &Value) -> Result<(), AllocError>
     requires { IsShort (value_spelling value.now) }
-    ensures bytes { OnOk result (out.new.items ≡ out.old.items ++ value_spelling value.now) }
-    ensures parts { OnOk result (IsValue value.now) }
+    ensures { OnOk result (out.new.items ≡ out.old.items ++ value_spelling value.now) }
 {
     match value {
         Value::Text(text) => {
@@ -117,8 +118,7 @@ fn put_value(out: &mut Vec<u8>, value: &Value) -> Result<(), AllocError>
 #[tactic(auto, unfolding(crate::specs::Spelling::property_spelling))]
 fn put_property(out: &mut Vec<u8>, property: &Property) -> Result<(), AllocError>
     requires { IsShort (property_spelling property.now) }
-    ensures bytes { OnOk result (out.new.items ≡ out.old.items ++ property_spelling property.now) }
-    ensures parts { OnOk result (IsProperty property.now) }
+    ensures { OnOk result (out.new.items ≡ out.old.items ++ property_spelling property.now) }
 {
     put_sized(out, property.name.as_str().as_bytes())?;
     put_value(out, &property.value)
@@ -130,6 +130,7 @@ fn put_row(out: &mut Vec<u8>, row: &Row) -> Result<(), AllocError>
     ensures bytes { OnOk result (out.new.items ≡ out.old.items ++ row_spelling row.now) }
     ensures parts { OnOk result (IsKept row.now) }
 {
+    row.kept();
     let properties = row.entity.properties();
     put_key(out, &row.key)?;
     put_u64(out, row.tick)?;
@@ -176,11 +177,10 @@ fn put_name(out: &mut Vec<u8>, name: &(u64, TableName)) -> Result<(), AllocError
     put_sized(out, name.1.as_str().as_bytes())
 }
 
-#[tactic(auto, using(crate::proofs::Sums::spelled_more, crate::proofs::Sums::part_within, crate::proofs::Sums::all_more))]
+#[tactic(auto, using(crate::proofs::Sums::spelled_more, crate::proofs::Sums::part_within))]
 fn put_properties(out: &mut Vec<u8>, properties: &[Property]) -> Result<(), AllocError>
     requires { IsShort (flat_map property_spelling properties.now) }
-    ensures bytes { OnOk result (out.new.items ≡ out.old.items ++ flat_map property_spelling properties.now) }
-    ensures parts { OnOk result (AllByRecursion IsProperty properties.now) }
+    ensures { OnOk result (out.new.items ≡ out.old.items ++ flat_map property_spelling properties.now) }
 {
     for property in properties {
         put_property(out, property)?;

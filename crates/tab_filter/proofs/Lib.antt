@@ -1,3 +1,4 @@
+pub mod TargetLaws
 pub mod WindowLaws
 pub mod Splits
 pub mod LiteralSteps

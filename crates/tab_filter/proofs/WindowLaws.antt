@@ -13,7 +13,8 @@ use Rattle.tab_filter.specs.declared.window.Narrowing.{Narrowing}
 use Rattle.tab_filter.specs.declared.window.KeyPart.{KeyPart}
 use Rattle.tab_filter.specs.declared.window.KeyPart.TheVariants.{Partition, Row}
 use Rattle.tab_filter.specs.Trees.{Tree, Compared, Negation, Both, Either}
-use Rattle.tab_filter.specs.Truth.{FilteredRow, truth, comparison_holds, found_holds, property_of, is_partition_key, is_row_key}
+use Rattle.tab_filter.specs.Targets.{is_partition_key, is_row_key}
+use Rattle.tab_filter.specs.Truth.{FilteredRow, truth, comparison_holds, found_holds, property_of}
 use Rattle.tab_filter.specs.Windows.{window_of, has, all_meet, any_fixes, narrowings, narrowing_of, narrowing_by, narrowing_if_key, is_of_part, is_not_equal}
 
 -- a row's key

@@ -1,3 +1,4 @@
+pub mod Targets
 pub mod Trees
 pub mod Truth
 pub mod Windows

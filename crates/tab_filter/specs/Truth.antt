@@ -1,5 +1,5 @@
 -- When a row matches a filter.
-use Rattle.std.specs.Prelude.{ℕ, List, Bool, false, not, ◌&&◌, ◌||◌, Option, Some, None, codes, bytes_eq, if◌then◌else◌}
+use Rattle.std.specs.Prelude.{ℕ, List, Bool, false, not, ◌&&◌, ◌||◌, Option, Some, None, if◌then◌else◌}
 use Rattle.std.specs.declared.cmp.Ordering.{Ordering}
 use Rattle.std.specs.Ordering.{is_eq, is_ne, is_lt, is_gt, is_le, is_ge, nat_cmp, int_cmp, bool_cmp}
 use Rattle.std.specs.Cmp.Lexicographic.{slice_cmp}
@@ -11,6 +11,7 @@ use Rattle.tab_edm.specs.Entities.{value_of}
 use Rattle.tab_filter.specs.declared.trees.Operator.{Operator}
 use Rattle.tab_filter.specs.declared.trees.Operator.TheVariants.{Equal, NotEqual, Greater, GreaterOrEqual, Less, LessOrEqual}
 use Rattle.tab_filter.specs.declared.trees.Comparison.{Comparison}
+use Rattle.tab_filter.specs.Targets.{is_partition_key, is_row_key, is_timestamp}
 use Rattle.tab_filter.specs.Trees.{Tree, Compared, Negation, Both, Either}
 
 -- what a filter sees of a row: its keys, its tick and its entity's properties
@@ -42,16 +43,6 @@ value_holds (Moment a) operator (Moment b) = operator_holds operator (nat_cmp a 
 value_holds (Guid a) operator (Guid b) = operator_holds operator (slice_cmp nat_cmp a b)
 value_holds (Bytes a) operator (Bytes b) = operator_holds operator (slice_cmp nat_cmp a b)
 value_holds a operator b = false
-
--- the names that stand for a row's keys and its tick
-unfoldable pub is_partition_key : List ℕ → Bool
-is_partition_key name = bytes_eq name (codes "PartitionKey")
-
-unfoldable pub is_row_key : List ℕ → Bool
-is_row_key name = bytes_eq name (codes "RowKey")
-
-unfoldable pub is_timestamp : List ℕ → Bool
-is_timestamp name = bytes_eq name (codes "Timestamp")
 
 -- the value of a row's property with this name
 abbrev pub property_of : FilteredRow → List ℕ → Option Value

@@ -13,7 +13,8 @@ use Rattle.tab_filter.specs.declared.window.Narrowing.{Narrowing}
 use Rattle.tab_filter.specs.declared.window.KeyPart.{KeyPart}
 use Rattle.tab_filter.specs.declared.window.KeyPart.TheVariants.{Partition, Row}
 use Rattle.tab_filter.specs.Trees.{Tree, Compared, Negation, Both, Either}
-use Rattle.tab_filter.specs.Truth.{operator_holds, is_partition_key, is_row_key}
+use Rattle.tab_filter.specs.Targets.{is_partition_key, is_row_key}
+use Rattle.tab_filter.specs.Truth.{operator_holds}
 
 -- the comparisons that narrow the partition keys, and those that narrow the row keys
 pub record WindowView : Type 0 where

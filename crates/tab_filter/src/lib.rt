@@ -8,6 +8,7 @@ mod lexer;
 mod literals;
 mod parse_stop;
 mod parser;
+mod targets;
 mod trees;
 mod truth;
 mod window;

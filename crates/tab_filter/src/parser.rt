@@ -13,6 +13,7 @@ use crate::lexer::{
 };
 use crate::literals::literal;
 use crate::parse_stop::ParseStop;
+use crate::targets::Classified;
 use crate::trees::Node;
 use crate::{Comparison, Operator};
 use std::alloc::Global;
@@ -76,11 +77,11 @@ fn compared<'a>(
 {
     let (value, rest) = literal(alloc, text)?;
     let name = TextValue::new(text_of(alloc, name)?);
-    let node = Node::Compare(Comparison {
+    let node = Node::Compare(Classified::new(Comparison {
         name,
         operator,
         value,
-    });
+    }));
     Ok((
         PartRead {
             node,

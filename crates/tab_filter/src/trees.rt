@@ -3,6 +3,7 @@
 ghost use Rattle.std.specs.Prelude.{◌≡◌, IfOk};
 ghost use Rattle.tab_filter.specs.Trees.{tree_of, Negation, Both, Either};
 
+use crate::targets::Classified;
 use std::alloc::Global;
 use std::marker::Model;
 use tab_edm::{TextValue, Value};
@@ -49,7 +50,7 @@ impl Comparison {
 /// What a filter is made of.
 #[derive(Debug, Drop)]
 pub enum Node {
-    Compare(Comparison),
+    Compare(Classified),
     Not(Box<Node>),
     And(Box<Node>, Box<Node>),
     Or(Box<Node>, Box<Node>),

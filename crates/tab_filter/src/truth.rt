@@ -1,13 +1,14 @@
 //! Whether a row matches a filter.
 
-ghost use Rattle.std.specs.Prelude.{◌≡◌, codes, bytes_eq};
+ghost use Rattle.std.specs.Prelude.{◌≡◌};
 ghost use Rattle.tab_edm.specs.declared.values.Value.TheVariants.{Text, Int64};
 ghost use Rattle.tab_keys.specs.Order.{text_cmp};
 ghost use Rattle.tab_filter.specs.Trees.{tree_of};
-ghost use Rattle.tab_filter.specs.Truth.{FilteredRow, operator_holds, value_holds, is_partition_key, is_row_key, is_timestamp, comparison_holds, truth};
+ghost use Rattle.tab_filter.specs.Truth.{FilteredRow, operator_holds, value_holds, comparison_holds, truth};
 
+use crate::targets::{Classified, Target};
 use crate::trees::Node;
-use crate::{Comparison, Filter, Operator};
+use crate::{Filter, Operator};
 use std::cmp::Ordering;
 use tab_edm::{Entity, Value};
 use tab_keys::{KeyText, utf16_cmp};
@@ -25,7 +26,7 @@ fn node_holds(node: &Node, pk: &KeyText, rk: &KeyText, tick: u64, entity: &Entit
     ensures { result ≡ truth (record { pk = pk.now; rk = rk.now; tick = tick; properties = entity.now.properties }) (tree_of node.now) }
 {
     match node {
-        Node::Compare(comparison) => comparison_holds(comparison, pk, rk, tick, entity),
+        Node::Compare(classified) => comparison_holds(classified, pk, rk, tick, entity),
         Node::Not(inner) => !node_holds(inner, pk, rk, tick, entity),
         Node::And(first, second) => {
             node_holds(first, pk, rk, tick, entity) && node_holds(second, pk, rk, tick, entity)
@@ -36,52 +37,27 @@ fn node_holds(node: &Node, pk: &KeyText, rk: &KeyText, tick: u64, entity: &Entit
     }
 }
 
-#[tactic(auto, unfolding(crate::specs::Truth::comparison_holds))]
 fn comparison_holds(
-    comparison: &Comparison,
+    classified: &Classified,
     pk: &KeyText,
     rk: &KeyText,
     tick: u64,
     entity: &Entity,
 ) -> bool
-    ensures { result ≡ comparison_holds (record { pk = pk.now; rk = rk.now; tick = tick; properties = entity.now.properties }) comparison.now }
+    ensures { result ≡ comparison_holds (record { pk = pk.now; rk = rk.now; tick = tick; properties = entity.now.properties }) classified.now }
 {
-    let name = comparison.name.as_str();
-    if is_partition_key(name) {
-        text_holds(pk.as_str(), comparison.operator, &comparison.value)
-    } else if is_row_key(name) {
-        text_holds(rk.as_str(), comparison.operator, &comparison.value)
-    } else if is_timestamp(name) {
-        value_holds(&Value::Moment(tick), comparison.operator, &comparison.value)
-    } else {
-        match entity.get(name) {
+    let comparison = classified.comparison();
+    match classified.target() {
+        Target::PartitionKey => text_holds(pk.as_str(), comparison.operator, &comparison.value),
+        Target::RowKey => text_holds(rk.as_str(), comparison.operator, &comparison.value),
+        Target::Timestamp => {
+            value_holds(&Value::Moment(tick), comparison.operator, &comparison.value)
+        }
+        Target::Property => match entity.get(comparison.name.as_str()) {
             Some(value) => value_holds(value, comparison.operator, &comparison.value),
             None => false,
-        }
+        },
     }
-}
-
-/// Whether the name stands for a row's partition key.
-#[tactic(auto, unfolding(crate::specs::Truth::is_partition_key))]
-pub fn is_partition_key(name: &str) -> bool
-    ensures { result ≡ is_partition_key name.now }
-{
-    name == "PartitionKey"
-}
-
-/// Whether the name stands for a row's row key.
-#[tactic(auto, unfolding(crate::specs::Truth::is_row_key))]
-pub fn is_row_key(name: &str) -> bool
-    ensures { result ≡ is_row_key name.now }
-{
-    name == "RowKey"
-}
-
-#[tactic(auto, unfolding(crate::specs::Truth::is_timestamp))]
-fn is_timestamp(name: &str) -> bool
-    ensures { result ≡ is_timestamp name.now }
-{
-    name == "Timestamp"
 }
 
 /// Whether a property with this value stands to the literal as the operator says.

@@ -7,8 +7,9 @@ ghost use Rattle.tab_filter.specs.Trees.{tree_of, Tree};
 ghost use Rattle.tab_filter.specs.Truth.{FilteredRow, truth};
 ghost use Rattle.tab_filter.specs.Windows.{WindowView, window_of, all_meet, has, lower_corner, reaches, below, narrowings, narrowing_of, meets, is_too_great, is_too_small, fixes, any_fixes, any_fixes_at, any_too_great, any_too_small, is_lower, is_of_part, greater_corner};
 
+use crate::targets::{is_partition_key, is_row_key};
 use crate::trees::Node;
-use crate::truth::{is_partition_key, is_row_key, operator_holds};
+use crate::truth::operator_holds;
 use crate::{Comparison, Filter, Operator};
 use std::alloc::Global;
 use std::marker::Model;
@@ -23,7 +24,7 @@ pub struct Narrowing {
 }
 
 impl Narrowing {
-    /// A copy in memory of its own.
+    /// A copy, which shares the memory of its text.
     pub fn try_copy(&self, alloc: Global) -> Result<Narrowing, Memory>
         ensures { IfOk result (λ copy. copy ≡ self.now) }
     {
@@ -155,7 +156,7 @@ impl Window {
         any_too_small(&self.partitions, pk)
     }
 
-    /// A copy in memory of its own.
+    /// A copy, which shares the memory of its text.
     pub fn try_copy(&self, alloc: Global) -> Result<Window, Memory>
         ensures { IfOk result (λ copy. copy ≡ self.now) }
     {
@@ -183,7 +184,7 @@ fn add_narrowings(
     ensures { OnOk result (out.new.items ≡ out.old.items ++ narrowings part (tree_of node.now)) }
 {
     match node {
-        Node::Compare(comparison) => add_narrowing(alloc, out, comparison, part),
+        Node::Compare(classified) => add_narrowing(alloc, out, classified.comparison(), part),
         Node::And(first, second) => {
             add_narrowings(alloc, out, first, part)?;
             add_narrowings(alloc, out, second, part)

@@ -1,4 +1,5 @@
 pub mod Units
+pub mod BadCharacters
 pub mod Names
 pub mod Injective
 pub mod OrderLaws

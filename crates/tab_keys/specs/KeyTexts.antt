@@ -19,6 +19,15 @@ unfoldable pub key_refusal : List ℕ → Option KeyRefused
 key_refusal text =
     if nat_lt MOST_UNITS (length (units_of text)) then Some TooLong else (if list_any is_bad_character (chars text) then Some BadCharacter else None)
 
+-- the units of the character that begins with this byte of a text, and none for a byte within a character
+abbrev pub units_begun : ℕ → ℕ
+units_begun byte = if nat_le 0x80 byte && nat_lt byte 0xC0 then 0 else (if nat_lt byte 0xF0 then 1 else 2)
+
+-- the byte, behind the one before it, ends a character that no key has
+abbrev pub ends_bad : ℕ → ℕ → Bool
+ends_bad before byte =
+    byte == 47 || byte == 92 || byte == 35 || byte == 63 || nat_lt byte 32 || byte == 127 || (before == 0xC2 && nat_le 128 byte && nat_le byte 159)
+
 -- a text that is a key
 pub record IsKeyText (text : List ℕ) : Type 0 where
   pub utf8 : IsUtf8 text

@@ -21,7 +21,7 @@ pub enum Bound {
 }
 
 impl Bound {
-    /// A copy in memory of its own.
+    /// A copy, which shares the memory of its texts.
     pub fn try_copy(&self, alloc: Global) -> Result<Bound, Memory>
         ensures { IfOk result (λ copy. copy ≡ self.now) }
     {

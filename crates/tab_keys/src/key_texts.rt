@@ -2,14 +2,15 @@
 //! refused are those of Microsoft's Table service REST reference, "Understanding the Table service data model",
 //! "Characters disallowed in key fields".
 
-ghost use Rattle.std.specs.Prelude.{◌≡◌, length, IfOk, MatchResult, None};
+ghost use Rattle.std.specs.Prelude.{◌≡◌, ◌||◌, length, IfOk, MatchResult, None, string_bytes};
+ghost use Rattle.std.specs.Arc.{arc_value};
 ghost use Rattle.std.specs.Option.{unwrap_or};
 ghost use Rattle.std.specs.Str.{chars};
 ghost use Rattle.std.specs.List.{list_any};
 ghost use Rattle.std.specs.Cmp.{partial_equiv_from_equiv, eq_by_cmp_equiv, partial_order_from_total};
 ghost use Rattle.std.specs.Ordering.{eq_by_cmp, as_partial_cmp};
 ghost use Rattle.std.proofs.Common.{refl};
-ghost use Rattle.tab_keys.specs.KeyTexts.{units_of, is_bad_character, key_refusal, IsKeyText};
+ghost use Rattle.tab_keys.specs.KeyTexts.{units_of, is_bad_character, key_refusal, IsKeyText, units_begun, ends_bad};
 ghost use Rattle.tab_keys.specs.Order.{text_cmp};
 ghost use Rattle.tab_keys.specs.TotalOrders.{text_cmp_total};
 
@@ -17,6 +18,7 @@ use crate::{Memory, utf16_cmp};
 use std::alloc::Global;
 use std::cmp::Ordering;
 use std::marker::Model;
+use std::sync::Arc;
 
 /// The most UTF-16 code units that a key text has.
 const MOST_UNITS: usize = 1024;
@@ -36,18 +38,21 @@ pub enum KeyRefused {
 /// may not have.
 #[derive(Debug, Drop)]
 pub struct KeyText {
-    text: String,
+    text: Arc<String, Global>,
+    units: usize,
 }
 
 impl Model for KeyText {
-    ghost use Rattle.std.specs.Prelude.{List, ℕ, string_bytes};
-    ghost use Rattle.tab_keys.specs.KeyTexts.{IsKeyText};
+    ghost use Rattle.std.specs.Prelude.{◌≡◌, List, ℕ, length, string_bytes};
+    ghost use Rattle.std.specs.Arc.{arc_value};
+    ghost use Rattle.tab_keys.specs.KeyTexts.{units_of, IsKeyText};
 
     ghost Value = { List ℕ };
 
-    ghost view = { λ key. string_bytes key.text };
+    ghost view = { λ key. string_bytes (arc_value key.text) };
 
-    ghost invariant = { λ key. IsKeyText (string_bytes key.text) };
+    ghost invariant = { λ key. IsKeyText (string_bytes (arc_value key.text))
+        × (key.units ≡ length (units_of (string_bytes (arc_value key.text)))) };
 }
 
 impl KeyText {
@@ -58,14 +63,15 @@ impl KeyText {
             (λ key. (key ≡ text.now) × (key_refusal text.now ≡ None))
             (λ why. unwrap_or (key_refusal text.now) KeyRefused.Memory ≡ why) }
     {
-        if count_units(text) > MOST_UNITS {
+        let Measured { units, is_bad } = measure(text);
+        if units > MOST_UNITS {
             return Err(KeyRefused::TooLong);
         }
-        if has_bad_character(text) {
+        if is_bad {
             return Err(KeyRefused::BadCharacter);
         }
-        match String::from_str(alloc, text) {
-            Ok(text) => Ok(KeyText { text }),
+        match shared(alloc, text) {
+            Ok(text) => Ok(KeyText { text, units }),
             Err(_) => Err(KeyRefused::Memory),
         }
     }
@@ -75,7 +81,8 @@ impl KeyText {
         ensures text { result.now ≡ self.now }
         ensures key { IsKeyText self.now }
     {
-        self.text.as_str()
+        let text: &String = &self.text;
+        text.as_str()
     }
 
     /// The length of the text in UTF-16 code units.
@@ -83,15 +90,19 @@ impl KeyText {
         ensures units { result ≡ length (units_of self.now) }
         ensures key { IsKeyText self.now }
     {
-        count_units(self.text.as_str())
+        self.units
     }
 
-    /// A copy in memory of its own.
-    pub fn try_copy(&self, alloc: Global) -> Result<KeyText, Memory>
+    /// A copy that shares the memory of its text: nothing is taken or copied, and no memory is found only where its
+    /// copies are past counting.
+    pub fn try_copy(&self, _alloc: Global) -> Result<KeyText, Memory>
         ensures { IfOk result (λ copy. copy ≡ self.now) }
     {
-        let text = String::from_str(alloc, self.text.as_str())?;
-        Ok(KeyText { text })
+        let text = Arc::try_clone(&self.text)?;
+        Ok(KeyText {
+            text,
+            units: self.units,
+        })
     }
 }
 
@@ -133,20 +144,51 @@ impl Ord for KeyText {
     }
 }
 
-fn count_units(text: &str) -> usize
-    ensures { result ≡ length (units_of text.now) }
+fn shared(alloc: Global, text: &str) -> Result<Arc<String, Global>, Memory>
+    ensures { IfOk result (λ copy. string_bytes (arc_value copy) ≡ text.now) }
 {
-    text.encode_utf16().count()
+    let copy = String::from_str(alloc, text)?;
+    Ok(Arc::new(alloc, copy)?)
 }
 
-fn has_bad_character(text: &str) -> bool
-    ensures { result ≡ list_any is_bad_character (chars text.now) }
-{
-    text.chars().any(is_bad_character)
+/// What one pass over its bytes tells of a text.
+#[derive(Clone, Copy, Drop)]
+struct Measured {
+    units: usize,
+    is_bad: bool,
 }
 
-fn is_bad_character(c: char) -> bool
-    ensures { result ≡ is_bad_character c }
+fn measure(text: &str) -> Measured
+    ensures units { result.units ≡ length (units_of text.now) }
+    ensures bad { result.is_bad ≡ list_any is_bad_character (chars text.now) }
 {
-    matches!(c, '/' | '\\' | '#' | '?' | '\u{0}'..='\u{1f}' | '\u{7f}'..='\u{9f}')
+    let mut units = 0;
+    let mut is_bad = false;
+    let mut before = 0;
+    for byte in text.as_bytes() {
+        units += units_begun(*byte);
+        is_bad = is_bad_up_to(is_bad, before, *byte);
+        before = *byte;
+    }
+    Measured { units, is_bad }
+}
+
+/// How many units the character has that begins with this byte of a text, and none within a character.
+fn units_begun(byte: u8) -> usize
+    ensures { result ≡ units_begun byte }
+{
+    match byte {
+        0x80..=0xBF => 0,
+        0xF0..=0xFF => 2,
+        _ => 1,
+    }
+}
+
+// The characters from U+0080 to U+009F are 0xC2 and a byte more.
+fn is_bad_up_to(is_bad: bool, before: u8, byte: u8) -> bool
+    ensures { result ≡ (is_bad || ends_bad before byte) }
+{
+    is_bad
+        || matches!(byte, b'/' | b'\\' | b'#' | b'?' | 0..=0x1f | 0x7f)
+        || (before == 0xc2 && matches!(byte, 0x80..=0x9f))
 }

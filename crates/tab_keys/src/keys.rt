@@ -32,7 +32,7 @@ impl Key {
         }
     }
 
-    /// A copy in memory of its own.
+    /// A copy, which shares the memory of its texts.
     pub fn try_copy(&self, alloc: Global) -> Result<Key, Memory>
         ensures { IfOk result (λ copy. copy ≡ self.now) }
     {

@@ -60,7 +60,7 @@ impl Span {
         !key.is_before(&self.lo) && key.is_before(&self.hi)
     }
 
-    /// A copy in memory of its own.
+    /// A copy, which shares the memory of its texts.
     pub fn try_copy(&self, alloc: Global) -> Result<Span, Memory>
         ensures { IfOk result (λ copy. copy ≡ self.now) }
     {

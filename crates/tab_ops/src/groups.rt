@@ -105,7 +105,9 @@ impl Group {
     pub fn of(alloc: Global, item: Item) -> Result<Group, Memory>
         ensures { IfOk result (λ group. group ≡ item ∷ []) }
     {
-        let mut items = Vec::new(alloc);
+        let Ok(mut items) = Vec::with_capacity(alloc, 1) else {
+            return Err(Memory);
+        };
         match items.push(item) {
             Ok(()) => Ok(Group { items }),
             Err(_) => Err(Memory),

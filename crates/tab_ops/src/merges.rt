@@ -22,7 +22,7 @@ pub(crate) fn merge(
     let Ok(properties) = joined(alloc, kept, given) else {
         return Err(OpRefused::Memory);
     };
-    match Entity::new(given.pk_units(), given.rk_units(), properties) {
+    match Entity::new(alloc, given.pk_units(), given.rk_units(), properties) {
         Ok(entity) => Ok(entity),
         Err(refused) => Err(refusal(index, &refused)),
     }

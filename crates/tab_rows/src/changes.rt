@@ -16,7 +16,7 @@ pub enum Change {
 }
 
 impl Change {
-    /// A copy in memory of its own.
+    /// A copy, which shares the memory of its key and its properties.
     pub fn try_copy(&self, alloc: Global) -> Result<Change, Memory>
         ensures { IfOk result (λ copy. copy ≡ self.now) }
     {

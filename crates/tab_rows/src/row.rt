@@ -27,7 +27,7 @@ impl Model for Row {
 }
 
 impl Row {
-    /// A copy in memory of its own.
+    /// A copy, which shares the memory of its key and its properties.
     pub fn try_copy(&self, alloc: Global) -> Result<Row, Memory>
         ensures { IfOk result (λ copy. copy ≡ self.now) }
     {

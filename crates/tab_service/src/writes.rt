@@ -52,13 +52,14 @@ fn decided_insert(
         Err(why) => return Ok(Err(why)),
     };
     match read_body(alloc, body)? {
-        Ok(body) => insert_from(minimal, preference_for(headers), name, body),
+        Ok(body) => insert_from(alloc, minimal, preference_for(headers), name, body),
         Err(why) => Ok(Err(why)),
     }
 }
 
 /// The insert of the entity that a body gives.
 fn insert_from(
+    alloc: Global,
     minimal: bool,
     prefer: Prefer,
     name: TableName,
@@ -73,7 +74,7 @@ fn insert_from(
     let Some(rk) = rk else {
         return Ok(Err(Refusal::KeysMissing));
     };
-    match entity_for(&pk, &rk, properties)? {
+    match entity_for(alloc, &pk, &rk, properties)? {
         Ok(entity) => {
             let op = Op::Insert(entity);
             Ok(Ok(change_operation(minimal, prefer, name, (pk, rk), op)))
@@ -103,13 +104,14 @@ fn decided_write(
         Err(why) => return Ok(Err(why)),
     };
     match read_body(alloc, body)? {
-        Ok(body) => write_from(minimal, writing, name, keys, condition, body),
+        Ok(body) => write_from(alloc, minimal, writing, name, keys, condition, body),
         Err(why) => Ok(Err(why)),
     }
 }
 
 /// The write of the entity that a body gives.
 fn write_from(
+    alloc: Global,
     minimal: bool,
     writing: Writing,
     name: TableName,
@@ -120,7 +122,7 @@ fn write_from(
     ensures { IfOk result (λ decided. decided ≡ write_from minimal writing name keys condition body) }
 {
     let (pk, rk) = keys;
-    match entity_for(&pk, &rk, body.properties)? {
+    match entity_for(alloc, &pk, &rk, body.properties)? {
         Ok(entity) => {
             let op = op_for(writing, entity, condition);
             Ok(Ok(change_operation(minimal, Prefer::Unsaid, name, (pk, rk), op)))
@@ -186,6 +188,7 @@ fn read_body(alloc: Global, bytes: &[u8]) -> Result<Result<BodyEntity, Refusal>,
 
 /// The entity of these properties, for a row with these keys.
 fn entity_for(
+    alloc: Global,
     pk: &KeyText,
     rk: &KeyText,
     properties: Properties,
@@ -193,7 +196,7 @@ fn entity_for(
     ensures entity { IfOk result (λ entity. entity ≡ entity_result (made (length (units_of pk.now)) (length (units_of rk.now)) properties)) }
     ensures made_for { IfOk result (λ entity. IfOk entity (λ e. (e.pk_units ≡ length (units_of pk.now)) × (e.rk_units ≡ length (units_of rk.now)))) }
 {
-    match Entity::new(pk.units(), rk.units(), properties.into_vec()) {
+    match Entity::new(alloc, pk.units(), rk.units(), properties.into_vec()) {
         Ok(entity) => Ok(Ok(entity)),
         Err(EdmRefused::Memory) => Err(Memory),
         Err(why) => Ok(Err(Refusal::Entity(why))),

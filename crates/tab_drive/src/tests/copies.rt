@@ -44,7 +44,7 @@ fn a_page_is_copied(rt: HostRuntime) -> Result<(), Fail> {
 
 /// An operation of each form, with an entity of no properties.
 fn operation(alloc: Global, form: u8) -> Option<Op> {
-    let entity = Entity::new(1, 1, Vec::new(alloc)).ok()?;
+    let entity = Entity::new(alloc, 1, 1, Vec::new(alloc)).ok()?;
     Some(match form {
         0 => Op::Insert(entity),
         1 => Op::Update(entity, Match::Any),

@@ -19,7 +19,7 @@ pub returns-in-Ok : goal.returns-in-Ok
 returns-in-Ok c =
     let ps = c.in_ok-properties.properties.items in
     let m = entity_parts c.args.pk_units c.args.rk_units c.args.bytes.now c.in_ok-count.count c.in_ok-count.rest.now ps c.in_ok-properties.rest.now (λ i. omega (arith, c.type_inv.bytes i)) c.requires.pk c.requires.rk c.in_ok-count.ensures c.in_ok-properties.ensures in
-    let same = made_is _ _ (c.in-Ok.ensures.exact ps (IsPermutation-refl ps) m.rising ∙ m.made) in
+    let same = made_is _ _ (c.in-Ok.ensures.exact (λ e. absurd cc) ps (IsPermutation-refl ps) m.rising ∙ m.made) in
     record {
       read = entity_gives c.args.pk_units c.args.rk_units c.args.bytes.now c.in_ok-count.count c.in_ok-count.rest.now ps c.in_ok-properties.rest.now c.in-Ok.entity c.in_ok-count.ensures c.in_ok-properties.ensures same;
       units = (ap (λ e. e.pk_units) same, ap (λ e. e.rk_units) same);

@@ -1,11 +1,7 @@
 use Rattle.std.proofs.Common.{◌≡◌, ◌++◌, take}
-use Rattle.std.specs.List.{flat_map, AllByRecursion}
+use Rattle.std.specs.List.{flat_map}
 use Rattle.tab_codec.specs.Spelling.{property_spelling}
-use Rattle.tab_codec.specs.Frames.{IsProperty}
 use Rattle.tab_codec.proofs.writing.put_properties.Given as goal
 
 abbrev pub invariant-loop-property : goal.invariant-loop-property
-invariant-loop-property l = record {
-  bytes : l.out.items ≡ l.fn.out.items ++ flat_map property_spelling (take l.property-index l.properties);
-  parts : AllByRecursion IsProperty (take l.property-index l.properties);
-}
+invariant-loop-property l = l.out.items ≡ l.fn.out.items ++ flat_map property_spelling (take l.property-index l.properties)

@@ -5,4 +5,4 @@ use Rattle.tab_ops.proofs.groups.Group.of.Goals as goal
 
 pub invariant_of-result : goal.invariant_of-result
 invariant_of-result c =
-    subst IsGroup (sym (c.in-Ok.ensures.items ∙ ap (λ (items : List ItemView). items ++ c.args.item ∷ []) c.new-items.ensures.items)) (IsGroup-one c.args.item)
+    subst IsGroup (sym (c.in-Ok-push.ensures.items ∙ ap (λ (items : List ItemView). items ++ c.args.item ∷ []) c.in-Ok.ensures.items)) (IsGroup-one c.args.item)
