@@ -25,6 +25,9 @@ use tab_keys::{KeyRefused, KeyText};
 /// The arrays and objects that a body may nest: those that `serde_json` takes.
 const DEPTH: usize = 127;
 
+/// The members of most bodies that are keys, and so need no room among the properties.
+const KEYS: usize = 2;
+
 /// Why a body gives no entity or no table.
 #[derive(Debug, Drop)]
 pub enum JsonRefused {
@@ -217,7 +220,7 @@ fn read_members(alloc: Global, body: &LentMembers) -> Result<BodyEntity, JsonRef
     ensures { Gives JsonRefused.Memory (λ entity. entity) result (entity_in (lent_object body.now) (lent_members body.now)) }
 {
     let members = body.as_slice();
-    let Ok(mut reading) = Reading::with_capacity(alloc, members.len()) else {
+    let Ok(mut reading) = Reading::with_capacity(alloc, members.len().saturating_sub(KEYS)) else {
         return Err(JsonRefused::Memory);
     };
     for member in members {

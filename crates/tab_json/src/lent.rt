@@ -16,7 +16,7 @@ use std::alloc::{AllocError, Global};
 use std::marker::Model;
 
 /// A JSON value: one that is lent alone, or one of a tree.
-#[derive(Clone, Copy, Drop)]
+#[derive(Drop)]
 pub enum Lent<'a> {
     Null,
     Flag(bool),

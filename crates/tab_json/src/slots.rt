@@ -17,7 +17,7 @@ pub enum Name<'a> {
 }
 
 /// A member: its name and its value.
-#[derive(Clone, Copy, Drop)]
+#[derive(Drop)]
 pub struct Slot<'a, V> {
     pub name: Name<'a>,
     pub value: V,
