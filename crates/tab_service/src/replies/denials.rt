@@ -48,10 +48,19 @@ pub fn denied_reply(alloc: Global, batch: bool, ask: &Ask, why: Denied) -> Resul
         Denied::NoTable => cause_reply(alloc, index_in(batch, 0), &no_table()),
         Denied::TableThere => cause_reply(alloc, None, &table_there()),
         Denied::NotFound => cause_reply(alloc, None, &no_entity()),
-        Denied::Busy { plan } => busy_reply(alloc, plan),
+        Denied::Busy { plan } => number_reply(
+            alloc,
+            503,
+            "ServerBusy",
+            "The server is busy: plan ",
+            plan,
+            ".",
+        ),
         Denied::TimeSpent => cause_reply(alloc, None, &time_spent()),
         Denied::IdsSpent => cause_reply(alloc, None, &numbers_spent()),
-        Denied::DiskFault { disk } => failed_reply(alloc, disk),
+        Denied::DiskFault { disk } => {
+            number_reply(alloc, 500, "DiskFault", "Disk ", disk, " failed.")
+        }
         Denied::Damaged { disk, at } => damaged_reply(alloc, disk, at),
         Denied::Memory => memory_bytes(alloc),
     }
@@ -96,29 +105,21 @@ fn condition_reply(alloc: Global, index: Option<usize>, tick: u64) -> Result<Vec
     cause_reply(alloc, index, &why)
 }
 
-/// The reply to a request whose range a plan hands over.
+/// The reply by a cause that has a number between its words.
 #[tactic(auto, unfolding(crate::specs::Replies::fault_at))]
-fn busy_reply(alloc: Global, plan: u64) -> Result<Vec<u8>, Memory>
-    ensures { IfOk result (λ bytes. bytes.items ≡ error_text (cause.busy plan)) }
+fn number_reply(
+    alloc: Global,
+    status: u16,
+    code: &'static str,
+    before: &'static str,
+    number: u64,
+    after: &'static str,
+) -> Result<Vec<u8>, Memory>
+    requires { IsStatusCode status }
+    ensures { IfOk result (λ bytes. bytes.items ≡ fault_reply status code.now (before.now ++ decimal number ++ after.now)) }
 {
-    let plan = plan.to_string(alloc)?;
-    let why = named(
-        503,
-        "ServerBusy",
-        "The server is busy: plan ",
-        plan.as_str(),
-        ".",
-    );
-    cause_reply(alloc, None, &why)
-}
-
-/// The reply to a request for which a disk failed.
-#[tactic(auto, unfolding(crate::specs::Replies::fault_at))]
-fn failed_reply(alloc: Global, disk: u64) -> Result<Vec<u8>, Memory>
-    ensures { IfOk result (λ bytes. bytes.items ≡ error_text (cause.disk_failed disk)) }
-{
-    let disk = disk.to_string(alloc)?;
-    let why = named(500, "DiskFault", "Disk ", disk.as_str(), " failed.");
+    let number = number.to_string(alloc)?;
+    let why = named(status, code, before, number.as_str(), after);
     cause_reply(alloc, None, &why)
 }
 
