@@ -1,18 +1,13 @@
 -- No value that this crate writes has a float in it, so each has a text.
-use Rattle.std.proofs.Common.{◌≡◌, ℕ, ℤ, pos, negsuc, List, [], ◌∷◌, ◌++◌, Bool, true, false, ◌||◌, refl, ap, ◌∙◌, map, flat_map, if◌then◌else◌, codes, None, Some, option_map, option_to_list}
+use Rattle.std.proofs.Common.{◌≡◌, ℕ, List, [], ◌∷◌, ◌++◌, Bool, true, false, ◌||◌, refl, ap, ◌∙◌, map, if◌then◌else◌, codes}
 use Rattle.std.specs.declared.cmp.Ordering.TheVariants.{Less, Equal, Greater}
 use Rattle.std.specs.Ordering.{nat_cmp, match_ordering}
 use Rattle.std.specs.Cmp.Lexicographic.{slice_cmp}
 use Rattle.serde_json.specs.Data.{Data, Members, no_members, member, string, put}
-use Rattle.serde_json.specs.Find.{of_integer, is_float}
 use Rattle.serde_json.specs.View.{items_of}
 use Rattle.serde_json.specs.Written.{has_float, members_have_float, items_have_float}
-use Rattle.tab_edm.specs.declared.values.Value.{Value}
-use Rattle.tab_edm.specs.declared.values.Value.TheVariants.{Text, Flag, Int32, Int64, Moment, Guid, Bytes}
-use Rattle.tab_edm.specs.declared.values.Property.{Property}
-use Rattle.tab_rows.specs.Rows.{RowView}
 use Rattle.tab_json.specs.Objects.{Member, with_members, object_of}
-use Rattle.tab_json.specs.Entities.{VersionView, version_of, value_data, annotated_type, annotation, is_selected, property_members, key_members, entity_members, metadata, metadata_address, entity_data, page_data}
+use Rattle.tab_json.specs.Entities.{metadata, metadata_address}
 use Rattle.tab_json.specs.Faults.{message_data, fault_data}
 use Rattle.tab_json.specs.Tables.{table_name, table_data, tables_data}
 use Rattle.tab_json.specs.declared.entities.JsonForm.{JsonForm}

@@ -1,5 +1,5 @@
 -- The JSON value of a property's value is read as this value again.
-use Rattle.std.proofs.Common.{◌≡◌, ℕ, suc, ◌^◌, ◌<◌, ◌≤◌, ℤ, pos, negsuc, inl, inr, List, [], ◌∷◌, length, true, false, All, Some, decimal, refl, sym, ap, ◌∙◌, arith, codes, FitsSigned, w32, w64}
+use Rattle.std.proofs.Common.{◌≡◌, ℕ, suc, ◌^◌, ◌<◌, ◌≤◌, ℤ, pos, negsuc, inl, inr, List, [], ◌∷◌, length, false, All, Some, decimal, refl, sym, ap, ◌∙◌, arith, codes, FitsSigned, w32, w64}
 use Rattle.std.specs.Prelude.{option_map, option_and_then, slice_index}
 use Rattle.std.specs.Fmt.{signed_decimal}
 use Rattle.std.specs.Str.Parse.{AllDigits, digits_value, signed_digits_value}
