@@ -103,11 +103,9 @@ impl Session {
         ensures ok { IfOk result (λ outgoing. Replied self.old self.new request (outgoing_text outgoing)) }
         ensures err { OnErr result (Unchanged self.old self.new) }
     {
-        let look = look_up(alloc, &self.store.tables, &request.ask)?;
-        let table = table_of(&look);
-        let (decided, outgoing) = prepare(alloc, &mut self.store, &request, table, self.moment)?;
-        self.record(alloc, look, request.ask, decided)?;
-        Ok(outgoing)
+        let plan = planned(alloc, &mut self.store, &request, self.moment)?;
+        self.record(alloc, plan.look, request.ask, plan.decided)?;
+        Ok(plan.outgoing)
     }
 
     /// Adds the entries of a decided request to the history, and does what it does to the store. Where no memory is found
@@ -164,6 +162,33 @@ impl Session {
             }
         }
     }
+}
+
+/// What a request comes to: its look-up, what the store answers, and what is written.
+#[derive(Drop)]
+struct Plan {
+    look: Option<LookUp>,
+    decided: StoreAnswer,
+    outgoing: Outgoing,
+}
+
+/// What a request comes to over a store. Nothing that is kept changes, but for the room for what it does.
+fn planned(alloc: Global, store: &mut Store, request: &Request, moment: u64) -> Result<Plan, Memory>
+    requires in_form { IsInForm request.now.form.account request.now }
+    ensures look { IfOk result (λ plan. plan.look ≡ look_up store.old.tables.names request.now.ask) }
+    ensures decided { IfOk result (λ plan. IsDecided (held_by store.old) moment request.now.ask plan.decided) }
+    ensures text { IfOk result (λ plan. outgoing_text plan.outgoing ≡ reply_outcome (reply_text request.now plan.decided.reply)) }
+    ensures room { IfOk result (λ plan. HasRoom store.new plan.decided.effect) }
+    ensures held { held_by store.new ≡ held_by store.old }
+{
+    let look = look_up(alloc, &store.tables, &request.ask)?;
+    let table = table_of(&look);
+    let (decided, outgoing) = prepare(alloc, store, request, table, moment)?;
+    Ok(Plan {
+        look,
+        decided,
+        outgoing,
+    })
 }
 
 /// What a request comes to over a store and gives to be written. Nothing that is kept changes, but for the room for what
