@@ -4,7 +4,7 @@ use crate::drivers::{ByteSink, ByteSource, run_over};
 use std::alloc::{AllocError, Global};
 use std::test::Fail;
 use tab_drive::Ended;
-use tab_history::Entry;
+use tab_history::{Entry, History};
 use tab_outside::{MemSink, MemSource};
 
 const MAKE_GOODS: &str =
@@ -62,7 +62,7 @@ fn run_messages(alloc: Global, messages: &[&str], last: &str) -> Result<Ran, All
 
 /// A run's status, how many events were done, and how many entries the history has.
 fn counts(ended: &Ended) -> (u8, u64, usize) {
-    (ended.status, ended.done, ended.history.as_slice().len())
+    (ended.status, ended.done, ended.history.len())
 }
 
 fn ends(alloc: Global, messages: &[&str], last: &str) -> Result<(u8, u64, usize), AllocError> {
@@ -141,8 +141,9 @@ fn table_numbers(alloc: Global, history: &[Entry]) -> Result<Vec<Option<u64>>, A
     Ok(found)
 }
 
-fn has_numbers(alloc: Global, ended: &Ended, due: &[Option<u64>]) -> Result<bool, AllocError> {
-    let found = table_numbers(alloc, ended.history.as_slice())?;
+fn has_numbers(alloc: Global, history: History, due: &[Option<u64>]) -> Result<bool, AllocError> {
+    let entries = history.into_vec(alloc).map_err(|_| AllocError)?;
+    let found = table_numbers(alloc, entries.as_slice())?;
     Ok(found.as_slice() == due)
 }
 
@@ -152,7 +153,7 @@ fn makes_numbers(
     due: &[Option<u64>],
 ) -> Result<bool, AllocError> {
     let ran = run_messages(alloc, messages, "end\n")?;
-    has_numbers(alloc, &ran.ended, due)
+    has_numbers(alloc, ran.ended.history, due)
 }
 
 #[test]
