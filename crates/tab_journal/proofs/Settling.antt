@@ -2,12 +2,13 @@
 use Rattle.std.proofs.Common.{◌≡◌, ℕ, ◌-◌, ◌^◌, ◌≤◌, Bool, true, false, cond, Option, Some, None, Result, Ok, Err, List, [], ◌∷◌, ◌++◌, refl, sym, ap, subst, ◌∙◌, inl, inr, arith}
 use Rattle.std.specs.Prelude.{◌⊎◌}
 use Rattle.tab_outside.specs.Disks.{Watch, CountsNow, OnlyNow, ReadsImage}
-use Rattle.tab_outside.specs.Pairs.{Now, Extends, AddsNone}
+use Rattle.tab_outside.specs.Pairs.{Tells, Now, Since, AddsNone}
+use Rattle.tab_outside.proofs.Moments.{tells_weaker, now_weaker, since_weaker, since_begins}
 use Rattle.tab_codec.specs.declared.frames.Frame.{Frame}
 use Rattle.tab_journal.specs.Areas.{Spells}
 use Rattle.tab_journal.specs.Fitting.{Fits}
 use Rattle.tab_journal.specs.Reading.{Found, read_areas}
-use Rattle.tab_journal.specs.Stores.{StoreView, area_a, area_b, IsSameStore, IsFaultAlone, IsFaultOrSpent, StoreCauses, fails_by, Answers, HasFrames}
+use Rattle.tab_journal.specs.Stores.{StoreView, area_a, area_b, IsSameStore, IsFaultAlone, IsFaultOrSpent, StoreCauses, fails_by, Answers, HasFrames, SpellsEither}
 use Rattle.tab_journal.specs.Keeping.{Sense, GoesOn, IfDoubt, Means, Runs, KeptView, IsSound}
 use Rattle.tab_journal.specs.KeptCauses.{passed_on, AfterChange, AfterSettling, AfterCheckpoint, KeptCauses}
 use Rattle.tab_journal.specs.declared.refusals.StoreRefused.{StoreRefused}
@@ -16,7 +17,7 @@ use Rattle.tab_journal.specs.declared.kept.KeptRefused.{KeptRefused}
 use Rattle.tab_journal.specs.declared.kept.KeptRefused.TheVariants as kept
 use Rattle.tab_journal.proofs.Fronts.{ReadsBack}
 use Rattle.tab_journal.proofs.PairLaws.{same_frames, not_both, spelled_read}
-use Rattle.tab_journal.proofs.Keeping.{running_now, still_now}
+use Rattle.tab_journal.proofs.Keeping.{frames_now, running_now, still_now}
 
 -- ---- soundness
 
@@ -126,20 +127,57 @@ settling_refused sense old new (store.NotAStore area at) x is unspent held doubt
 settling_refused sense old new store.EpochSpent x is unspent held doubt failed = absurd (unspent refl)
 settling_refused sense old new store.Memory x is unspent held doubt failed = subst (λ (y : KeptRefused). AfterSettling sense old new (Err y)) (sym is) (held, doubt, failed)
 
-same_kept : {D C S : Type 0} (old : KeptView D C S) (s : StoreView D) → s ≡ old.store → s.failed ≡ false → old.failed ≡ false → record old { store = s; failed = s.failed } ≡ old
-same_kept {D = D} old s is failed running =
-    ap (λ (b : Bool). record old { store = s; failed = b }) (failed ∙ sym running) ∙ ap (λ (t : StoreView D). record old { store = t }) is
+-- ---- a checkpoint
 
-pub checkpoint_refused : {D C S : Type 0} (T U : Type 0) (old : KeptView D C S) (s : StoreView D) (refused : StoreRefused) (x : KeptRefused) → x ≡ passed_on refused → IsFaultOrSpent {T = U} (Err refused)
-    → s.failed ≡ fails_by {T = U} false (Err refused) → old.failed ≡ false → (refused ≡ store.EpochSpent → (s ≡ old.store) × (old.store.epoch ≡ 2 ^ 64 - 1))
-    → AfterCheckpoint {T = T} old (record old { store = s; failed = s.failed }) (Err x)
-checkpoint_refused T U old s (store.DiskFault area) x is alone failed running spent =
-    subst (λ (y : KeptRefused). AfterCheckpoint {T = T} old (record old { store = s; failed = s.failed }) (Err y)) (sym is) (refl, refl, failed)
-checkpoint_refused T U old s (store.NotAStore area at) x is alone failed running spent = absurd alone
-checkpoint_refused T U old s store.EpochSpent x is alone failed running spent =
+pub both_stand : {C S : Type 0} (sense : Sense C S) (held : C) (list pieces : List Frame) → sense.stands list held → sense.stands pieces held → (fs : List Frame) → (fs ≡ list) ⊎ (fs ≡ pieces)
+    → sense.stands fs held
+both_stand sense held list pieces stand stand_too fs (inl same) = subst (λ (gs : List Frame). sense.stands gs held) (sym same) stand
+both_stand sense held list pieces stand stand_too fs (inr same) = subst (λ (gs : List Frame). sense.stands gs held) (sym same) stand_too
+
+pub either_now : {D : Type 0} (w : Watch D) (kind number : ℕ) (list pieces : List Frame) (ta tb : ℕ) (a b : D) (P : List Frame → Type 0) → CountsNow w → ((fs : List Frame) → (fs ≡ list) ⊎ (fs ≡ pieces) → P fs)
+    → SpellsEither w kind number list pieces ta tb a b → Now w (Spells kind number) P a b
+either_now w kind number list pieces ta tb a b P counts to either c d c_left d_left =
+    tells_weaker (Spells kind number) (λ fs. (fs ≡ list) ⊎ (fs ≡ pieces)) P c d to (either.each c d (counts a ta c either.earlier_a c_left) (counts b tb d either.earlier_b d_left))
+
+pub either_since : {D : Type 0} (w : Watch D) (kind number : ℕ) (list pieces : List Frame) (ta tb : ℕ) (a b : D) (P : List Frame → Type 0) → ((fs : List Frame) → (fs ≡ list) ⊎ (fs ≡ pieces) → P fs)
+    → SpellsEither w kind number list pieces ta tb a b → Since w (Spells kind number) P ta tb a b
+either_since w kind number list pieces ta tb a b P to either = since_weaker w (Spells kind number) (λ fs. (fs ≡ list) ⊎ (fs ≡ pieces)) P ta tb a b to either.each
+
+-- nothing was written
+pub runs_since : {D C S : Type 0} (w : Watch D) (sense : Sense C S) (store : StoreView D) (held : C) → OnlyNow w → Runs w sense store held
+    → Since w (Spells store.kind store.number) (λ fs. sense.stands fs held) (w.moment (area_a store)) (w.moment (area_b store)) (area_a store) (area_b store)
+runs_since w sense store held only runs =
+    since_begins w (Spells store.kind store.number) (λ fs. sense.stands fs held) (area_a store) (area_b store) only
+    (now_weaker w (Spells store.kind store.number) (λ fs. fs ≡ runs.frames) (λ fs. sense.stands fs held) (area_a store) (area_b store)
+    (λ fs same. subst (λ (gs : List Frame). sense.stands gs held) (sym same) runs.stand) (frames_now w store runs.frames runs.has))
+
+same_kept : {D C S : Type 0} (old : KeptView D C S) (s : StoreView D) (b : Bool) → s ≡ old.store → b ≡ false → old.failed ≡ false → record old { store = s; failed = b } ≡ old
+same_kept {D = D} old s b is failed running =
+    ap (λ (x : Bool). record old { store = s; failed = x }) (failed ∙ sym running) ∙ ap (λ (t : StoreView D). record old { store = t }) is
+
+pub checkpoint_refused : {D C S : Type 0} (T U : Type 0) (old : KeptView D C S) (s : StoreView D) (b : Bool) (refused : StoreRefused) (x : KeptRefused) → x ≡ passed_on refused → IsFaultOrSpent {T = U} (Err refused)
+    → b ≡ fails_by {T = U} false (Err refused) → old.failed ≡ false → (refused ≡ store.EpochSpent → (s ≡ old.store) × (old.store.epoch ≡ 2 ^ 64 - 1))
+    → AfterCheckpoint {T = T} old (record old { store = s; failed = b }) (Err x)
+checkpoint_refused T U old s b (store.DiskFault area) x is alone failed running spent =
+    subst (λ (y : KeptRefused). AfterCheckpoint {T = T} old (record old { store = s; failed = b }) (Err y)) (sym is) (refl, refl, failed)
+checkpoint_refused T U old s b (store.NotAStore area at) x is alone failed running spent = absurd alone
+checkpoint_refused T U old s b store.EpochSpent x is alone failed running spent =
     let so = spent refl in
-    subst (λ (y : KeptRefused). AfterCheckpoint {T = T} old (record old { store = s; failed = s.failed }) (Err y)) (sym is) (same_kept old s so.0 failed running, so.1)
-checkpoint_refused T U old s store.Memory x is alone failed running spent = absurd alone
+    subst (λ (y : KeptRefused). AfterCheckpoint {T = T} old (record old { store = s; failed = b }) (Err y)) (sym is) (same_kept old s b so.0 failed running, so.1)
+checkpoint_refused T U old s b store.Memory x is alone failed running spent = absurd alone
+
+pub sound_after : {D C S : Type 0} (U : Type 0) (w : Watch D) (sense : Sense C S) (old : KeptView D C S) (s : StoreView D) (b : Bool) (refused : StoreRefused) → IsFaultOrSpent {T = U} (Err refused)
+    → b ≡ fails_by {T = U} false (Err refused) → old.failed ≡ false → (refused ≡ store.EpochSpent → s ≡ old.store) → IsSound w sense old → s.kind ≡ old.store.kind
+    → Now w (Spells s.kind s.number) (Means sense old.held old.doubt) (area_a s) (area_b s) → IsSound w sense (record old { store = s; failed = b })
+sound_after U w sense old s b (store.DiskFault area) alone failed running untouched sound kind now = sound_failed w sense (record old { store = s; failed = b }) (kind ∙ sound.kind) failed now
+sound_after U w sense old s b (store.NotAStore area at) alone failed running untouched sound kind now = absurd alone
+sound_after {D = D} U w sense old s b store.EpochSpent alone failed running untouched sound kind now = record {
+  kind = kind ∙ sound.kind;
+  now = now;
+  runs = λ e. subst (λ (t : StoreView D). Runs w sense t old.held) (sym (untouched refl)) (sound.runs running);
+  clear = λ e. sound.clear running;
+}
+sound_after U w sense old s b store.Memory alone failed running untouched sound kind now = absurd alone
 
 -- ---- a settling that was refused
 
