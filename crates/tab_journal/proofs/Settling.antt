@@ -8,9 +8,9 @@ use Rattle.tab_codec.specs.declared.frames.Frame.{Frame}
 use Rattle.tab_journal.specs.Areas.{Spells}
 use Rattle.tab_journal.specs.Fitting.{Fits}
 use Rattle.tab_journal.specs.Reading.{Found, read_areas}
-use Rattle.tab_journal.specs.Stores.{StoreView, area_a, area_b, IsSameStore, IsFaultAlone, IsFaultOrSpent, StoreCauses, fails_by, Answers, HasFrames, SpellsEither}
+use Rattle.tab_journal.specs.Stores.{StoreView, area_a, area_b, IsSameStore, IsFaultOrSpent, StoreCauses, fails_by, Answers, HasFrames, SpellsEither}
 use Rattle.tab_journal.specs.Keeping.{Sense, GoesOn, IfDoubt, Means, Runs, KeptView, IsSound}
-use Rattle.tab_journal.specs.KeptCauses.{passed_on, AfterChange, AfterSettling, AfterCheckpoint, KeptCauses}
+use Rattle.tab_journal.specs.KeptCauses.{passed_on, KeptCauses}
 use Rattle.tab_journal.specs.declared.refusals.StoreRefused.{StoreRefused}
 use Rattle.tab_journal.specs.declared.refusals.StoreRefused.TheVariants as store
 use Rattle.tab_journal.specs.declared.kept.KeptRefused.{KeptRefused}
@@ -112,21 +112,6 @@ causes_pass T U faults old new refused x is causes = record {
   fault = λ area e. causes.fault area (ap (store_refused {T = U}) (fault_of refused area (sym is ∙ same_refusal {T = T} x (kept.DiskFault area) e)));
 }
 
-pub change_refused : {D C S : Type 0} (T U : Type 0) (sense : Sense C S) (old new : KeptView D C S) (step : S) (refused : StoreRefused) (x : KeptRefused) → x ≡ passed_on refused → IsFaultAlone {T = U} (Err refused)
-    → new.held ≡ old.held → new.doubt ≡ Some step → new.failed ≡ true → AfterChange {T = T} sense old new step (Err x)
-change_refused T U sense old new step (store.DiskFault area) x is alone held doubt failed =
-    subst (λ (y : KeptRefused). AfterChange {T = T} sense old new step (Err y)) (sym is) (held, doubt, failed)
-change_refused T U sense old new step (store.NotAStore area at) x is alone held doubt failed = absurd alone
-change_refused T U sense old new step store.EpochSpent x is alone held doubt failed = absurd alone
-change_refused T U sense old new step store.Memory x is alone held doubt failed = absurd alone
-
-pub settling_refused : {D C S : Type 0} (sense : Sense C S) (old new : KeptView D C S) (refused : StoreRefused) (x : KeptRefused) → x ≡ passed_on refused → (refused ≡ store.EpochSpent → ⊥)
-    → new.held ≡ old.held → new.doubt ≡ old.doubt → new.failed ≡ true → AfterSettling sense old new (Err x)
-settling_refused sense old new (store.DiskFault area) x is unspent held doubt failed = subst (λ (y : KeptRefused). AfterSettling sense old new (Err y)) (sym is) (held, doubt, failed)
-settling_refused sense old new (store.NotAStore area at) x is unspent held doubt failed = subst (λ (y : KeptRefused). AfterSettling sense old new (Err y)) (sym is) (held, doubt, failed)
-settling_refused sense old new store.EpochSpent x is unspent held doubt failed = absurd (unspent refl)
-settling_refused sense old new store.Memory x is unspent held doubt failed = subst (λ (y : KeptRefused). AfterSettling sense old new (Err y)) (sym is) (held, doubt, failed)
-
 -- ---- a checkpoint
 
 pub both_stand : {C S : Type 0} (sense : Sense C S) (held : C) (list pieces : List Frame) → sense.stands list held → sense.stands pieces held → (fs : List Frame) → (fs ≡ list) ⊎ (fs ≡ pieces)
@@ -150,21 +135,6 @@ runs_since w sense store held only runs =
     since_begins w (Spells store.kind store.number) (λ fs. sense.stands fs held) (area_a store) (area_b store) only
     (now_weaker w (Spells store.kind store.number) (λ fs. fs ≡ runs.frames) (λ fs. sense.stands fs held) (area_a store) (area_b store)
     (λ fs same. subst (λ (gs : List Frame). sense.stands gs held) (sym same) runs.stand) (frames_now w store runs.frames runs.has))
-
-same_kept : {D C S : Type 0} (old : KeptView D C S) (s : StoreView D) (b : Bool) → s ≡ old.store → b ≡ false → old.failed ≡ false → record old { store = s; failed = b } ≡ old
-same_kept {D = D} old s b is failed running =
-    ap (λ (x : Bool). record old { store = s; failed = x }) (failed ∙ sym running) ∙ ap (λ (t : StoreView D). record old { store = t }) is
-
-pub checkpoint_refused : {D C S : Type 0} (T U : Type 0) (old : KeptView D C S) (s : StoreView D) (b : Bool) (refused : StoreRefused) (x : KeptRefused) → x ≡ passed_on refused → IsFaultOrSpent {T = U} (Err refused)
-    → b ≡ fails_by {T = U} false (Err refused) → old.failed ≡ false → (refused ≡ store.EpochSpent → (s ≡ old.store) × (old.store.epoch ≡ 2 ^ 64 - 1))
-    → AfterCheckpoint {T = T} old (record old { store = s; failed = b }) (Err x)
-checkpoint_refused T U old s b (store.DiskFault area) x is alone failed running spent =
-    subst (λ (y : KeptRefused). AfterCheckpoint {T = T} old (record old { store = s; failed = b }) (Err y)) (sym is) (refl, refl, failed)
-checkpoint_refused T U old s b (store.NotAStore area at) x is alone failed running spent = absurd alone
-checkpoint_refused T U old s b store.EpochSpent x is alone failed running spent =
-    let so = spent refl in
-    subst (λ (y : KeptRefused). AfterCheckpoint {T = T} old (record old { store = s; failed = b }) (Err y)) (sym is) (same_kept old s b so.0 failed running, so.1)
-checkpoint_refused T U old s b store.Memory x is alone failed running spent = absurd alone
 
 pub sound_after : {D C S : Type 0} (U : Type 0) (w : Watch D) (sense : Sense C S) (old : KeptView D C S) (s : StoreView D) (b : Bool) (refused : StoreRefused) → IsFaultOrSpent {T = U} (Err refused)
     → b ≡ fails_by {T = U} false (Err refused) → old.failed ≡ false → (refused ≡ store.EpochSpent → s ≡ old.store) → IsSound w sense old → s.kind ≡ old.store.kind

@@ -3,7 +3,7 @@ use Rattle.tab_codec.specs.declared.frames.Frame.{Frame}
 use Rattle.tab_codec.proofs.FrameLaws.{frame_again}
 use Rattle.tab_journal.specs.Reading.{read_areas}
 use Rattle.tab_journal.specs.Stores.{area_a, area_b}
-use Rattle.tab_journal.specs.Keeping.{Means, IsSound}
+use Rattle.tab_journal.specs.Keeping.{KeptView, Means, IsSound}
 use Rattle.tab_journal.proofs.Settling.{sound_running, settled_still, read_holds, never_unread, none_in_doubt, one_in_doubt, place_of, same_refusal, unread_at}
 use Rattle.tab_journal.proofs.kept.Kept.settle.Goals as goal
 
@@ -41,7 +41,9 @@ returns-in_default-take-clause-sound g c honest =
     let sense = g.C.Content.sense in
     let sound = subst (λ v. IsSound w sense v) (sym c.self.view_is) (c.requires.sound honest) in
     let failed = subst (λ v. v.failed ≡ true) (sym c.self.view_is) c.requires.failed in
-    settled_still w sense _ _ (g.met.D.Disk.counts_now honest) (g.met.D.Disk.only_now honest) sound c.reopen.ensures.same (c.reopen.ensures.images_a honest) (c.reopen.ensures.images_b honest) refl refl failed
+    let new : KeptView g.row.D.Denot g.row.C.Denot g.row.C-Step.Denot = record { store = c.reopen.new.self; held = c.self.inside.held; doubt = c.take.new.self; failed = c.self.inside.failed } in
+    settled_still w sense _ new (g.met.D.Disk.counts_now honest) (g.met.D.Disk.only_now honest) sound c.reopen.ensures.same (c.reopen.ensures.images_a honest) (c.reopen.ensures.images_b honest) refl
+    (c.take.ensures.after ∙ sym (sym c.take.ensures.value ∙ c.in_default-take.is)) failed
 
 pub returns-in_default-take-clause-never : goal.returns-in_default-take-clause-never
 returns-in_default-take-clause-never g c honest area at is =
