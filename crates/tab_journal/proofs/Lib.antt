@@ -6,6 +6,12 @@ pub mod Appending
 pub mod Running
 pub mod Compacting
 pub mod ReadingLaws
+pub mod Agreeing
+pub mod NextReading
+pub mod Covers
+pub mod Names
+pub mod Begun
+pub mod Lasts
 pub mod PairLaws
 pub mod Opening
 pub mod Adopting

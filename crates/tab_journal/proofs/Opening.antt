@@ -1,6 +1,6 @@
 -- What was read of an area is what it holds: its header, that it is closed, its frames.
 use Rattle.std.proofs.Common.{◌≡◌, ℕ, zero, suc, ◌+◌, ◌-◌, ◌<◌, ◌≤◌, ◌^◌, Bool, true, false, cond, inl, inr, Result, Ok, Err, List, [], ◌∷◌, ◌++◌, length, take, drop, get_or, refl, sym, ap, subst, ◌∙◌, arith, append_assoc, length-append, take-append-drop}
-use Rattle.std.specs.Prelude.{◌≢◌, ◌⊎◌, ◌==◌, nat_lt}
+use Rattle.std.specs.Prelude.{◌≢◌, ◌⊎◌, ◌==◌, nat_lt, min}
 use Rattle.std.specs.Int.{w64, to_be_bytes, from_be_bytes}
 use Rattle.std.proofs.lemmas.Bool.Decides.{nat_tests}
 use Rattle.std.proofs.lemmas.List.{drop_at, length-drop, length-take}
@@ -48,10 +48,15 @@ never_without at e is = absurd cc
 without_closed : (at : ℕ) → NoHeader at ≡ Closed → ⊥
 without_closed at is = absurd cc
 
+-- the header of a store of a kind that there is
+abbrev known_header : ℕ → ℕ → List ℕ → Front
+known_header kind number bytes =
+    cond (nat_lt (agreeing (stamp kind number) bytes) 11) (NoHeader (1 + agreeing (stamp kind number) bytes))
+    (cond (nat_lt (length bytes) 19) (NoHeader (1 + length bytes)) (Open (from_be_bytes w64 (take 8 (drop 11 bytes)))))
+
 -- what is read as closed is closed
-header_never_closed : (kind number : ℕ) (bytes : List ℕ) → header_of kind number bytes ≡ Closed → ⊥
-unfolding header_of
-header_never_closed kind number bytes e =
+known_never_closed : (kind number : ℕ) (bytes : List ℕ) → known_header kind number bytes ≡ Closed → ⊥
+known_never_closed kind number bytes e =
     elim (chosen (nat_lt (agreeing (stamp kind number) bytes) 11) (NoHeader (1 + agreeing (stamp kind number) bytes))
     (cond (nat_lt (length bytes) 19) (NoHeader (1 + length bytes)) (Open (from_be_bytes w64 (take 8 (drop 11 bytes))))) Closed e) [
       | inl h ↦ absurd (without_closed _ h.1)
@@ -59,6 +64,14 @@ header_never_closed kind number bytes e =
         | inl i ↦ absurd (without_closed _ i.1)
         | inr i ↦ absurd (never_closed _ (sym i.1))
       ]
+    ]
+
+header_never_closed : (kind number : ℕ) (bytes : List ℕ) → header_of kind number bytes ≡ Closed → ⊥
+unfolding header_of
+header_never_closed kind number bytes e =
+    elim (chosen (nat_lt 2 kind) (NoHeader (1 + min 9 (agreeing (stamp kind number) bytes))) (known_header kind number bytes) Closed e) [
+      | inl h ↦ absurd (without_closed _ h.1)
+      | inr h ↦ absurd (known_never_closed kind number bytes h.1)
     ]
 
 pub closed_is : (kind number : ℕ) (area : List ℕ) → front_of kind number area ≡ Closed → IsClosed area
@@ -95,9 +108,8 @@ header_made kind number epoch bytes fits agrees long is =
           ∙ sym (append_assoc (stamp kind number) (to_be_bytes w64 epoch) (drop 8 behind));
     }
 
-header_is : (kind number epoch : ℕ) (bytes : List ℕ) → AreBytes bytes → header_of kind number bytes ≡ Open epoch → HasHeader kind number epoch bytes
-unfolding header_of
-header_is kind number epoch bytes fits e =
+known_header_is : (kind number epoch : ℕ) (bytes : List ℕ) → AreBytes bytes → known_header kind number bytes ≡ Open epoch → HasHeader kind number epoch bytes
+known_header_is kind number epoch bytes fits e =
     elim (chosen (nat_lt (agreeing (stamp kind number) bytes) 11) (NoHeader (1 + agreeing (stamp kind number) bytes))
     (cond (nat_lt (length bytes) 19) (NoHeader (1 + length bytes)) (Open (from_be_bytes w64 (take 8 (drop 11 bytes))))) (Open epoch) e) [
       | inl h ↦ absurd (never_without _ epoch h.1)
@@ -105,6 +117,14 @@ header_is kind number epoch bytes fits e =
         | inl i ↦ absurd (never_without _ epoch i.1)
         | inr i ↦ header_made kind number epoch bytes fits (ltb-false _ _ h.0) (ltb-false _ _ i.0) (same_front _ epoch i.1)
       ]
+    ]
+
+header_is : (kind number epoch : ℕ) (bytes : List ℕ) → AreBytes bytes → header_of kind number bytes ≡ Open epoch → HasHeader kind number epoch bytes
+unfolding header_of
+header_is kind number epoch bytes fits e =
+    elim (chosen (nat_lt 2 kind) (NoHeader (1 + min 9 (agreeing (stamp kind number) bytes))) (known_header kind number bytes) (Open epoch) e) [
+      | inl h ↦ absurd (never_without _ epoch h.1)
+      | inr h ↦ known_header_is kind number epoch bytes fits h.1
     ]
 
 -- an open area, from its gate on

@@ -7,7 +7,10 @@ use Rattle.std.proofs.lemmas.List.{drop_at, length-drop}
 use Rattle.std.proofs.lemmas.Nat.{from_be_bytes-to_be_bytes_8}
 use Rattle.tab_codec.specs.declared.frames.Frame.{Frame}
 use Rattle.tab_codec.specs.Frames.{AreBytes}
-use Rattle.tab_journal.specs.Fitting.{told_first}
+use Rattle.std.proofs.lemmas.Bool.{true≢false}
+use Rattle.tab_journal.specs.Fitting.{told_first, told_by, after, after_all, is_whole_store}
+use Rattle.tab_journal.specs.declared.fitting.Told.{Told}
+use Rattle.tab_journal.specs.declared.fitting.Told.TheVariants as told
 use Rattle.tab_journal.specs.Areas.{stamp, header, opened, front, first_gate, ShutAt, AreFrames, IsOpen, IsClosed, IsOlder, IsUnder, Keeps, Spells}
 use Rattle.tab_journal.specs.Reading.{agreeing, header_of, front_of, frames_of, frames_from, Found, found, found_in, not_before, read_areas}
 use Rattle.tab_journal.specs.declared.reading.Front.{Front}
@@ -40,23 +43,48 @@ header_long kind number epoch rest =
     let size : length (stamp kind number ++ to_be_bytes w64 epoch) ≡ 19 = refl in
     omega (arith, size, length-append (stamp kind number ++ to_be_bytes w64 epoch) rest)
 
+-- frames are of a kind that there is
+told_nothing : (list : List Frame) → after_all told.Nothing list ≡ told.Nothing
+unfolding after_all after
+told_nothing [] = refl
+told_nothing (frame ∷ list) = told_nothing list
+
+of_no_kind : (kind : ℕ) → 2 < kind → told_first kind ≡ told.Nothing
+unfolding told_first
+of_no_kind kind over =
+    let not_map : (kind == 0) ≡ false = grind (arith, nat_tests) in
+    let not_names : (kind == 1) ≡ false = grind (arith, nat_tests) in
+    let not_server : (kind == 2) ≡ false = grind (arith, nat_tests) in
+    rw (not_map, not_names, not_server) refl
+
+not_whole : (b : Bool) (kind : ℕ) (list : List Frame) → nat_lt 2 kind ≡ b → is_whole_store (told_by kind list) ≡ true → b ≡ false
+unfolding is_whole_store
+not_whole false kind list is whole = refl
+not_whole true kind list is whole =
+    let over : 2 < kind = grind (arith, nat_tests) in
+    let none : told_by kind list ≡ told.Nothing = ap (λ (t : Told). after_all t list) (of_no_kind kind over) ∙ told_nothing list in
+    absurd (true≢false (sym whole ∙ ap is_whole_store none))
+
+known_kind : (kind : ℕ) (list : List Frame) → AreFrames kind list → nat_lt 2 kind ≡ false
+known_kind kind list are = not_whole (nat_lt 2 kind) kind list refl are.whole
+
 -- an open area's header is read
-header_read : (kind number epoch : ℕ) (rest : List ℕ) → epoch < 2 ^ 64 → front_of kind number (1 ∷ (header kind number epoch ++ rest)) ≡ Open epoch
+header_read : (kind number epoch : ℕ) (rest : List ℕ) → nat_lt 2 kind ≡ false → epoch < 2 ^ 64 → front_of kind number (1 ∷ (header kind number epoch ++ rest)) ≡ Open epoch
 unfolding front_of header_of
-header_read kind number epoch rest within =
+header_read kind number epoch rest known within =
     let bytes = header kind number epoch ++ rest in
     let agrees : nat_lt (agreeing (stamp kind number) bytes) 11 ≡ false = ap (λ (n : ℕ). nat_lt n 11) (header_agrees kind number epoch rest) in
     let long : nat_lt (length bytes) 19 ≡ false = test_false (length bytes) 19 (header_long kind number epoch rest) in
-    rw (agrees, long) (ap Open (ap (from_be_bytes w64) (epoch_bytes kind number epoch rest) ∙ from_be_bytes-to_be_bytes_8 epoch within))
+    rw (known, agrees, long) (ap Open (ap (from_be_bytes w64) (epoch_bytes kind number epoch rest) ∙ from_be_bytes-to_be_bytes_8 epoch within))
 
 open_read : (kind number epoch : ℕ) (list : List Frame) (area : List ℕ) → IsOpen kind number epoch list area → front_of kind number area ≡ Open epoch
 open_read kind number epoch list area is_open =
     let head = has_header kind number epoch list area is_open in
-    ap (front_of kind number) head.1 ∙ header_read kind number epoch head.0 is_open.within
+    ap (front_of kind number) head.1 ∙ header_read kind number epoch head.0 (known_kind kind list is_open.are) is_open.within
 
-older_read : (kind number epoch : ℕ) (area : List ℕ) (older : IsOlder kind number epoch area) → epoch < 2 ^ 64 → front_of kind number area ≡ Open older.older
-older_read kind number epoch area older within =
-    ap (front_of kind number) older.is ∙ header_read kind number older.older older.rest (omega (arith, older.lower, within))
+older_read : (kind number epoch : ℕ) (area : List ℕ) (older : IsOlder kind number epoch area) → nat_lt 2 kind ≡ false → epoch < 2 ^ 64 → front_of kind number area ≡ Open older.older
+older_read kind number epoch area older known within =
+    ap (front_of kind number) older.is ∙ header_read kind number older.older older.rest known (omega (arith, older.lower, within))
 
 closed_read : (kind number : ℕ) (area : List ℕ) → IsClosed area → front_of kind number area ≡ Closed
 unfolding front_of
@@ -113,13 +141,13 @@ under_first : ReadsBack → (kind number epoch : ℕ) (list : List Frame) (a b :
 under_first reads kind number epoch list a b is (inl closed) =
     first_counts kind epoch _ _ _ _ list (open_read kind number epoch list a is) (closed_read kind number b closed) (frames_read reads kind number epoch list a is)
 under_first reads kind number epoch list a b is (inr older) =
-    first_over kind epoch older.older _ _ _ _ list older.lower (open_read kind number epoch list a is) (older_read kind number epoch b older is.within) (frames_read reads kind number epoch list a is)
+    first_over kind epoch older.older _ _ _ _ list older.lower (open_read kind number epoch list a is) (older_read kind number epoch b older (known_kind kind list is.are) is.within) (frames_read reads kind number epoch list a is)
 
 under_second : ReadsBack → (kind number epoch : ℕ) (list : List Frame) (a b : List ℕ) → IsOpen kind number epoch list b → IsUnder kind number epoch a → WereFound list (read_areas kind number a b)
 under_second reads kind number epoch list a b is (inl closed) =
     second_counts kind epoch _ _ _ _ list (closed_read kind number a closed) (open_read kind number epoch list b is) (frames_read reads kind number epoch list b is)
 under_second reads kind number epoch list a b is (inr older) =
-    second_over kind epoch older.older _ _ _ _ list older.lower (older_read kind number epoch a older is.within) (open_read kind number epoch list b is) (frames_read reads kind number epoch list b is)
+    second_over kind epoch older.older _ _ _ _ list older.lower (older_read kind number epoch a older (known_kind kind list is.are) is.within) (open_read kind number epoch list b is) (frames_read reads kind number epoch list b is)
 
 -- what two areas spell is read of them
 pub spelled_read : ReadsBack → (kind number : ℕ) (list : List Frame) (a b : List ℕ) → Spells kind number list a b → WereFound list (read_areas kind number a b)

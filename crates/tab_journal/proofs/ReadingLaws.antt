@@ -41,7 +41,7 @@ not_open gate shut = not_true (gate == 1) (λ e. shut (open_gate gate e))
 
 -- ---- all that is spelled is read
 
-one_read : (steps at n : ℕ) (told : Told) (frame : Frame) (bytes : List ℕ) → frame_at bytes ≡ Ok (frame, n) → takes told frame ≡ true
+pub one_read : (steps at n : ℕ) (told : Told) (frame : Frame) (bytes : List ℕ) → frame_at bytes ≡ Ok (frame, n) → takes told frame ≡ true
     → frames_from (suc steps) told at (1 ∷ bytes) ≡ followed_by frame (frames_from steps (after told frame) (at + 1 + n) (drop n bytes))
 unfolding frames_from
 one_read steps at n told frame bytes read fits = rw (read, fits) refl

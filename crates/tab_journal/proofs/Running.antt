@@ -51,7 +51,7 @@ whole_stays (told.Map (Some m)) f whole = map_stays m f
 whole_stays (told.Names None) f whole = absurd cc
 whole_stays (told.Names (Some n)) f whole = names_stay n f
 whole_stays (told.Server ranges) f whole = refl
-whole_stays told.Nothing f whole = refl
+whole_stays told.Nothing f whole = whole
 
 pub are_more : (kind : ℕ) (list : List Frame) (frame : Frame) → AreFrames kind list → HasSpelling frame → Fits kind list frame → AreFrames kind (list ++ frame ∷ [])
 are_more kind list frame are spelled fits = record {

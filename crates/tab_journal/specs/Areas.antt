@@ -1,5 +1,5 @@
 -- How an area is spelled, and which frames two areas spell together.
-use Rattle.std.specs.Prelude.{◌≡◌, ◌≢◌, ℕ, ◌+◌, ◌<◌, ◌^◌, ◌⊎◌, List, [], ◌∷◌, ◌++◌, length, true, codes}
+use Rattle.std.specs.Prelude.{◌≡◌, ◌≢◌, ℕ, ◌+◌, ◌<◌, ◌^◌, ◌⊎◌, ◌==◌, if◌then◌else◌, List, [], ◌∷◌, ◌++◌, length, true, codes}
 use Rattle.std.specs.List.{AllByRecursion}
 use Rattle.std.specs.Int.{w64, to_be_bytes}
 use Rattle.tab_codec.specs.declared.frames.Frame.{Frame}
@@ -7,9 +7,10 @@ use Rattle.tab_codec.specs.Spelling.{spelling}
 use Rattle.tab_codec.specs.Frames.{HasSpelling}
 use Rattle.tab_journal.specs.Fitting.{told_first, told_by, takes_all, is_whole_store}
 
--- what an area's header begins with, behind its gate: a mark, the version 1, the kind of the store, and the server's number
+-- what an area's header begins with, behind its gate: a mark, the version 1, the kind of the store, and of a server's store
+-- the server's number, else 0
 abbrev pub stamp : ℕ → ℕ → List ℕ
-stamp kind number = codes "TABSTORE" ++ 1 ∷ kind ∷ number ∷ []
+stamp kind number = codes "TABSTORE" ++ 1 ∷ kind ∷ (if kind == 2 then number else 0) ∷ []
 
 -- the header, behind the area's gate
 unfoldable pub header : ℕ → ℕ → ℕ → List ℕ

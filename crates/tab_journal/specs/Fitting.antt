@@ -5,7 +5,7 @@ use Rattle.tab_journal.specs.Told.{server_takes, server_after, map_takes, map_af
 use Rattle.tab_journal.specs.declared.fitting.Told.{Told}
 use Rattle.tab_journal.specs.declared.fitting.Told.TheVariants as told
 
--- the kinds of stores, as the header of an area tells them: 0 the map, 1 the names, 2 a server. No other kind has frames.
+-- the kinds of stores, as the header of an area tells them: 0 the map, 1 the names, 2 a server. There is no other kind.
 unfoldable pub told_first : ℕ → Told
 told_first kind = if kind == 0 then told.Map None else (if kind == 1 then told.Names None else (if kind == 2 then told.Server [] else told.Nothing))
 
@@ -31,10 +31,11 @@ unfoldable pub takes_all : Told → List Frame → Bool
 takes_all so_far [] = true
 takes_all so_far (frame ∷ frames) = takes so_far frame && takes_all (after so_far frame) frames
 
--- the frames may end here: a map and names have their first frame
+-- the frames may end here: a map and names have their first frame, and a store of no kind has no end
 unfoldable pub is_whole_store : Told → Bool
 is_whole_store (told.Map None) = false
 is_whole_store (told.Names None) = false
+is_whole_store told.Nothing = false
 is_whole_store so_far = true
 
 -- what the frames of a kind told

@@ -1,7 +1,9 @@
 pub mod Told
+pub mod Begun
 pub mod Fitting
 pub mod Areas
 pub mod Reading
+pub mod NextFrames
 pub mod Steps
 pub mod Stores
 pub mod Making

@@ -1,5 +1,5 @@
 -- Reading two areas: the frames that they spell, or the first place that has no spelling.
-use Rattle.std.specs.Prelude.{◌≡◌, ℕ, zero, suc, ◌+◌, List, [], ◌∷◌, ◌++◌, length, take, drop, Bool, true, false, ◌==◌, nat_lt, Result, Ok, Err, if◌then◌else◌}
+use Rattle.std.specs.Prelude.{◌≡◌, ℕ, zero, suc, ◌+◌, List, [], ◌∷◌, ◌++◌, length, take, drop, Bool, true, false, ◌==◌, nat_lt, min, Result, Ok, Err, if◌then◌else◌}
 use Rattle.std.specs.Int.{w64, from_be_bytes}
 use Rattle.tab_codec.specs.declared.frames.Frame.{Frame}
 use Rattle.tab_codec.specs.Reading.{frame_at}
@@ -41,10 +41,12 @@ agreeing [] others = 0
 agreeing (byte ∷ bytes) [] = 0
 agreeing (byte ∷ bytes) (other ∷ others) = if byte == other then suc (agreeing bytes others) else 0
 
--- the header behind an open gate: its epoch, or the first byte that no header of this store has there
+-- the header behind an open gate: its epoch, or the first byte that no header of this store has there; no header has a
+-- kind above 2
 unfoldable pub header_of : ℕ → ℕ → List ℕ → Front
 header_of kind number bytes =
-    if nat_lt (agreeing (stamp kind number) bytes) 11 then NoHeader (1 + agreeing (stamp kind number) bytes)
+    if nat_lt 2 kind then NoHeader (1 + min 9 (agreeing (stamp kind number) bytes))
+    else if nat_lt (agreeing (stamp kind number) bytes) 11 then NoHeader (1 + agreeing (stamp kind number) bytes)
     else (if nat_lt (length bytes) 19 then NoHeader (1 + length bytes) else Open (from_be_bytes w64 (take 8 (drop 11 bytes))))
 
 -- what stands at the front of an area

@@ -1,9 +1,9 @@
 -- What the frames of a store told so far, as far as the next frame depends on it, and which frame fits behind them.
-use Rattle.std.specs.Prelude.{◌≡◌, ℕ, ◌+◌, ◌-◌, ◌^◌, List, [], ◌∷◌, ◌++◌, length, map, filter, find, Bool, true, false, not, ◌&&◌, ◌||◌, ◌==◌, nat_lt, nat_le, Option, Some, None, if◌then◌else◌}
+use Rattle.std.specs.Prelude.{◌≡◌, ℕ, ◌+◌, ◌-◌, ◌^◌, List, [], ◌∷◌, ◌++◌, length, map, filter, find, Bool, true, false, not, ◌&&◌, ◌==◌, nat_lt, nat_le, Option, Some, None, if◌then◌else◌}
 use Rattle.std.specs.Bool.{beq}
 use Rattle.std.specs.List.{list_any, list_all, last_or}
 use Rattle.std.specs.Ordering.{is_eq}
-use Rattle.tab_keys.specs.Order.{key_lt, same_key, head_key, bound_lt, name_cmp}
+use Rattle.tab_keys.specs.Order.{key_lt, same_key, head_key, name_cmp}
 use Rattle.tab_keys.specs.Spans.{Interval, has}
 use Rattle.tab_keys.specs.declared.keys.Key.{Key}
 use Rattle.tab_keys.specs.declared.bounds.Bound.{Bound}
@@ -15,11 +15,6 @@ use Rattle.tab_codec.specs.declared.frames.RangeRow.{RangeRow}
 use Rattle.tab_journal.specs.declared.ranges.RangeTold.{RangeTold}
 use Rattle.tab_codec.specs.declared.frames.Frame.{Frame}
 use Rattle.tab_codec.specs.declared.frames.Frame.TheVariants as frames
-
--- no number stands twice
-unfoldable pub differ : List ℕ → Bool
-differ [] = true
-differ (n ∷ ns) = not (list_any (λ other. other == n) ns) && differ ns
 
 -- ---- a server's frames: copies of ranges
 
@@ -45,10 +40,10 @@ abbrev pub changed_key : Change → Key
 changed_key (Put row) = row.key
 changed_key (Take key) = key
 
--- no key stands twice
-unfoldable pub keys_differ : List Key → Bool
+-- no key is changed twice
+unfoldable pub keys_differ : List Change → Bool
 keys_differ [] = true
-keys_differ (key ∷ keys) = not (list_any (λ other. same_key other key) keys) && keys_differ keys
+keys_differ (change ∷ changes) = not (list_any (λ other. same_key (changed_key other) (changed_key change)) changes) && keys_differ changes
 
 -- rows fit behind those of a copy that is not whole: in its span, and behind its last row
 abbrev pub takes_rows : Option RangeTold → List RowView → Bool
@@ -59,7 +54,7 @@ takes_rows (Some one) rows = not one.is_whole && list_all (λ row. has one.span 
 abbrev pub takes_changes : Option RangeTold → List Change → Bool
 takes_changes None changes = false
 takes_changes (Some one) changes =
-    one.is_whole && list_all (λ change. has one.span (changed_key change)) changes && keys_differ (map changed_key changes)
+    one.is_whole && list_all (λ change. has one.span (changed_key change)) changes && keys_differ changes
 
 abbrev pub is_some_range : Option RangeTold → Bool
 is_some_range None = false
@@ -90,25 +85,33 @@ pub record MapTold : Type 0 where
   pub next_range : ℕ
   pub rows : List RangeRow
 
-abbrev pub numbers_of : List RangeRow → List ℕ
-numbers_of rows = map (λ row. row.range) rows
+-- a row has the number
+abbrev pub has_number : List RangeRow → ℕ → Bool
+has_number rows range = list_any (λ row. row.range == range) rows
 
 abbrev pub is_listed : List ℕ → ℕ → Bool
-is_listed numbers range = list_any (λ other. other == range) numbers
+is_listed numbers range = list_any (λ number. number == range) numbers
 
 -- some row has the key
 abbrev pub covers : List RangeRow → Key → Bool
 covers rows key = list_any (λ row. has row.span key) rows
 
+-- the first key behind the bound is one of the interval
+abbrev pub begins_in : Interval → Bound → Bool
+begins_in span (At table pk) = has span (head_key table pk)
+begins_in span End = false
+
 -- two maps both cover the first key behind a bound, or neither does
-unfoldable pub agree_at : List RangeRow → List RangeRow → Bound → Bool
-agree_at rows others End = true
-agree_at rows others (At table pk) = beq (covers rows (head_key table pk)) (covers others (head_key table pk))
+abbrev pub agree_at : List RangeRow → List RangeRow → Bound → Bool
+agree_at rows others bound = beq (list_any (λ row. begins_in row.span bound) rows) (list_any (λ row. begins_in row.span bound) others)
+
+abbrev pub agree_in : List RangeRow → List RangeRow → Interval → Bool
+agree_in rows others span = agree_at rows others span.lo && agree_at rows others span.hi
 
 -- Two lists of rows have the same keys together. Whether a key is covered changes at the rows' bounds alone, so it is
 -- asked there.
 unfoldable pub same_keys : List RangeRow → List RangeRow → Bool
-same_keys rows others = list_all (λ row. agree_at rows others row.span.lo && agree_at rows others row.span.hi) (rows ++ others)
+same_keys rows others = list_all (λ row. agree_in rows others row.span) rows && list_all (λ row. agree_in rows others row.span) others
 
 -- the rows of these numbers, and the others
 abbrev pub rows_of : List ℕ → List RangeRow → List RangeRow
@@ -117,30 +120,26 @@ rows_of numbers rows = filter (λ row. is_listed numbers row.range) rows
 abbrev pub rows_besides : List ℕ → List RangeRow → List RangeRow
 rows_besides numbers rows = filter (λ row. not (is_listed numbers row.range)) rows
 
--- the rows with one more, before those of a higher low bound
-abbrev pub with_range_row : List RangeRow → RangeRow → List RangeRow
-with_range_row rows row =
-    filter (λ other. not (bound_lt row.span.lo other.span.lo)) rows ++ row ∷ filter (λ other. bound_lt row.span.lo other.span.lo) rows
-
-unfoldable pub with_range_rows : List RangeRow → List RangeRow → List RangeRow
-with_range_rows rows [] = rows
-with_range_rows rows (row ∷ more) = with_range_rows (with_range_row rows row) more
+-- no number stands twice
+unfoldable pub numbers_differ : List RangeRow → Bool
+numbers_differ [] = true
+numbers_differ (row ∷ rows) = not (has_number rows row.range) && numbers_differ rows
 
 -- numbers of rows that differ and are below the next one
 abbrev pub are_numbers : ℕ → List RangeRow → Bool
-are_numbers next_range rows = differ (numbers_of rows) && list_all (λ row. nat_lt row.range next_range) rows
+are_numbers next_range rows = list_all (λ row. nat_lt row.range next_range) rows && numbers_differ rows
 
 -- new rows take the place of old ones of the map: each old number is that of a row, the keys are the same, the new
 -- numbers are those of no row and below the next number, which does not fall, and a plan's number is left behind this one
 abbrev pub takes_commit : MapTold → ℕ → ℕ → List ℕ → List RangeRow → Bool
 takes_commit told plan next_range old_ranges new_rows =
-    list_all (is_listed (numbers_of told.rows)) old_ranges
-    && same_keys (rows_of old_ranges told.rows) new_rows
-    && are_numbers next_range new_rows
-    && list_all (λ row. not (is_listed (numbers_of told.rows) row.range)) new_rows
+    nat_lt plan (2 ^ 64 - 1)
     && nat_le told.next_range next_range
     && nat_le (length (rows_besides old_ranges told.rows) + length new_rows) most_rows
-    && nat_lt plan (2 ^ 64 - 1)
+    && list_all (has_number told.rows) old_ranges
+    && are_numbers next_range new_rows
+    && list_all (λ row. not (has_number told.rows row.range)) new_rows
+    && same_keys (rows_of old_ranges told.rows) new_rows
 
 -- a Map comes first and but once, and Commits behind it
 unfoldable pub map_takes : Option MapTold → Frame → Bool
@@ -151,7 +150,7 @@ map_takes told frame = false
 unfoldable pub map_after : Option MapTold → Frame → Option MapTold
 map_after None (frames.Map next_range next_plan rows) = Some (record { next_range = next_range; rows = rows })
 map_after (Some told) (frames.Commit plan next_range old_ranges new_rows) =
-    Some (record { next_range = next_range; rows = with_range_rows (rows_besides old_ranges told.rows) new_rows })
+    Some (record { next_range = next_range; rows = rows_besides old_ranges told.rows ++ new_rows })
 map_after told frame = told
 
 -- ---- the names' frames
@@ -166,17 +165,25 @@ pub record NamesTold : Type 0 where
 abbrev pub is_taken : List (ℕ × List ℕ) → List ℕ → Bool
 is_taken names name = list_any (λ other. is_eq (name_cmp other.1 name)) names
 
--- no name stands twice
-unfoldable pub names_differ : List (ℕ × List ℕ) → Bool
-names_differ [] = true
-names_differ (name ∷ names) = not (is_taken names name.1) && names_differ names
+-- each of these names is absent from those before it
+unfoldable pub are_new : List (ℕ × List ℕ) → List (ℕ × List ℕ) → Bool
+are_new before [] = true
+are_new before (name ∷ names) = not (is_taken before name.1) && are_new (before ++ name ∷ []) names
 
--- names that may be listed behind others: they differ, are absent so far, and their tables' numbers are below the next one
--- and above those so far
+-- the number of the last table, where there is one
+abbrev pub last_number : List (ℕ × List ℕ) → Option ℕ
+last_number names = last_or None (map (λ name. name.0) names)
+
+-- the number is above the last one
+abbrev pub is_above : Option ℕ → ℕ → Bool
+is_above None table = true
+is_above (Some last) table = nat_lt last table
+
+-- names that may be listed behind others: they differ and are absent so far, and their tables' numbers are below the next
+-- one and above those so far, which rise, so that the last one is the greatest
 abbrev pub takes_names : ℕ → List (ℕ × List ℕ) → List (ℕ × List ℕ) → Bool
 takes_names next_table before names =
-    names_differ names
-    && list_all (λ name. not (is_taken before name.1) && nat_lt name.0 next_table && list_all (λ other. nat_lt other.0 name.0) before) names
+    list_all (λ name. nat_lt name.0 next_table && is_above (last_number before) name.0) names && are_new before names
 
 unfoldable pub names_takes : Option NamesTold → Frame → Bool
 names_takes None (frames.Names next_table names) = takes_names next_table [] names

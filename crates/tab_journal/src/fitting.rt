@@ -28,7 +28,7 @@ pub enum Told {
     Names(Option<NamesState>),
     /// Of a server.
     Server(Ranges),
-    /// Of a store of no kind, which has no frames.
+    /// Of a store of no kind; there is none.
     Nothing,
 }
 
@@ -47,6 +47,7 @@ impl Told {
     }
 
     /// Whether the frame fits, and where it does, what it tells is kept.
+    #[tactic(auto, unfolding(crate::specs::Fitting::takes, crate::specs::Fitting::after))]
     pub fn take(&mut self, alloc: Global, frame: &Frame) -> Result<bool, Memory>
         ensures fits { IfOk result (λ fits. fits ≡ takes self.old frame.now) }
         ensures after { IfOk result (λ fits. IsTrue fits → self.new ≡ after self.old frame.now) }
@@ -71,11 +72,11 @@ impl Told {
         }
     }
 
-    /// Whether the frames may end here: a map and names have their first frame.
+    /// Whether the frames may end here: a map and names have their first frame, and a store of no kind has no end.
     #[tactic(auto, unfolding(crate::specs::Fitting::is_whole_store))]
     pub fn is_whole(&self) -> bool
         ensures { result ≡ is_whole_store self.now }
     {
-        !matches!(self, Told::Map(None) | Told::Names(None))
+        !matches!(self, Told::Map(None) | Told::Names(None) | Told::Nothing)
     }
 }

@@ -5,6 +5,8 @@
 mod areas;
 mod disks;
 mod fitting;
+#[cfg(test)]
+mod fitting_tests;
 mod headers;
 mod kept;
 mod laws;
@@ -21,7 +23,7 @@ mod tests;
 
 pub use fitting::{MAP_KIND, NAMES_KIND, SERVER_KIND};
 pub use kept::{Content, Kept, KeptRefused};
-pub use laws::areas_spell_what_is_read;
+pub use laws::{areas_spell_what_is_read, rows_that_agree_have_the_same_keys};
 pub use maps::MOST_RANGES;
 pub use refusals::{Back, StoreRefused};
 pub use store::Store;
