@@ -1,14 +1,14 @@
 -- What is known of something kept between two calls, and what its calls answer.
-use Rattle.std.proofs.Common.{◌≡◌, ℕ, ◌-◌, ◌^◌, ◌≤◌, Bool, true, false, cond, Option, Some, None, Result, Ok, Err, List, [], ◌∷◌, ◌++◌, refl, sym, ap, subst, ◌∙◌, inl, inr, arith}
+use Rattle.std.proofs.Common.{◌≡◌, ℕ, zero, suc, ◌-◌, ◌^◌, ◌≤◌, Bool, true, false, cond, Option, Some, None, Result, Ok, Err, List, [], ◌∷◌, ◌++◌, refl, sym, ap, subst, ◌∙◌, inl, inr, arith}
 use Rattle.std.specs.Prelude.{◌⊎◌}
-use Rattle.tab_outside.specs.Disks.{Watch, CountsNow, OnlyNow, ReadsImage}
+use Rattle.tab_outside.specs.Disks.{Watch, Rests, CountsNow, OnlyNow, ReadsImage}
 use Rattle.tab_outside.specs.Pairs.{Tells, Now, Since, AddsNone}
-use Rattle.tab_outside.proofs.Moments.{tells_weaker, now_weaker, since_weaker, since_begins}
+use Rattle.tab_outside.proofs.Moments.{rests_adds_none, tells_weaker, now_weaker, since_weaker, since_begins}
 use Rattle.tab_codec.specs.declared.frames.Frame.{Frame}
 use Rattle.tab_journal.specs.Areas.{Spells}
 use Rattle.tab_journal.specs.Fitting.{Fits}
 use Rattle.tab_journal.specs.Reading.{Found, read_areas}
-use Rattle.tab_journal.specs.Stores.{StoreView, area_a, area_b, IsSameStore, IsFaultOrSpent, StoreCauses, fails_by, Answers, HasFrames, SpellsEither}
+use Rattle.tab_journal.specs.Stores.{StoreView, area_a, area_b, area_of, IsSameStore, IsFaultOrSpent, StoreCauses, fails_by, Answers, HasFrames, SpellsEither}
 use Rattle.tab_journal.specs.Keeping.{Sense, GoesOn, IfDoubt, Means, Runs, KeptView, IsSound}
 use Rattle.tab_journal.specs.KeptCauses.{passed_on, KeptCauses}
 use Rattle.tab_journal.specs.declared.refusals.StoreRefused.{StoreRefused}
@@ -17,6 +17,7 @@ use Rattle.tab_journal.specs.declared.kept.KeptRefused.{KeptRefused}
 use Rattle.tab_journal.specs.declared.kept.KeptRefused.TheVariants as kept
 use Rattle.tab_journal.proofs.Fronts.{ReadsBack}
 use Rattle.tab_journal.proofs.PairLaws.{same_frames, not_both, spelled_read}
+use Rattle.tab_journal.proofs.Running.{left_alone}
 use Rattle.tab_journal.proofs.Keeping.{frames_now, running_now, still_now}
 
 -- ---- soundness
@@ -151,15 +152,46 @@ sound_after U w sense old s b store.Memory alone failed running untouched sound 
 
 -- ---- a settling that was refused
 
-pub settled_still : {D C S : Type 0} (w : Watch D) (sense : Sense C S) (old new : KeptView D C S) → CountsNow w → OnlyNow w → IsSound w sense old → IsSameStore old.store new.store
-    → AddsNone w (area_a old.store) (area_a new.store) → AddsNone w (area_b old.store) (area_b new.store) → new.held ≡ old.held → new.doubt ≡ old.doubt → new.failed ≡ true → IsSound w sense new
-settled_still {C = C} {S = S} w sense old new counts only sound same none_a none_b held doubt failed =
-    sound_failed w sense new (same.kind ∙ sound.kind) failed
-    (subst (λ (x : C). Now w (Spells new.store.kind new.store.number) (Means sense x new.doubt) (area_a new.store) (area_b new.store)) (sym held)
+-- the images are as they were, and so is what is held and what is in doubt
+now_still : {D C S : Type 0} (w : Watch D) (sense : Sense C S) (old new : KeptView D C S) → CountsNow w → OnlyNow w → IsSound w sense old → IsSameStore old.store new.store
+    → AddsNone w (area_a old.store) (area_a new.store) → AddsNone w (area_b old.store) (area_b new.store) → new.held ≡ old.held → new.doubt ≡ old.doubt
+    → Now w (Spells new.store.kind new.store.number) (Means sense new.held new.doubt) (area_a new.store) (area_b new.store)
+now_still {C = C} {S = S} w sense old new counts only sound same none_a none_b held doubt =
+    subst (λ (x : C). Now w (Spells new.store.kind new.store.number) (Means sense x new.doubt) (area_a new.store) (area_b new.store)) (sym held)
     (subst (λ (d : Option S). Now w (Spells new.store.kind new.store.number) (Means sense old.held d) (area_a new.store) (area_b new.store)) (sym doubt)
     (now_named w (Means sense old.held old.doubt) old.store new.store same
-    (still_now w old.store.kind old.store.number (Means sense old.held old.doubt) (area_a old.store) (area_b old.store) (area_a new.store) (area_b new.store) counts only none_a none_b sound.now))))
+    (still_now w old.store.kind old.store.number (Means sense old.held old.doubt) (area_a old.store) (area_b old.store) (area_a new.store) (area_b new.store) counts only none_a none_b sound.now)))
+
+pub settled_still : {D C S : Type 0} (w : Watch D) (sense : Sense C S) (old new : KeptView D C S) → CountsNow w → OnlyNow w → IsSound w sense old → IsSameStore old.store new.store
+    → AddsNone w (area_a old.store) (area_a new.store) → AddsNone w (area_b old.store) (area_b new.store) → new.held ≡ old.held → new.doubt ≡ old.doubt → new.failed ≡ true → IsSound w sense new
+settled_still w sense old new counts only sound same none_a none_b held doubt failed =
+    sound_failed w sense new (same.kind ∙ sound.kind) failed (now_still w sense old new counts only sound same none_a none_b held doubt)
 
 pub unread_at : {D : Type 0} (Z : Type 0) (new : StoreView D) (read : Result Found (ℕ × ℕ)) (refused : StoreRefused) (area at : ℕ) → refused ≡ store.NotAStore area at → Answers {Z = Z} new (Err refused) read
     → read ≡ Err (area, at)
 unread_at Z new read refused area at is answers = subst (λ (r : StoreRefused). Answers {Z = Z} new (Err r) read) is answers
+
+-- ---- a failure or a stop that is armed
+
+same_none : {D : Type 0} (w : Watch D) (x y : D) → y ≡ x → AddsNone w x y
+same_none {D = D} w x y e = subst (λ (z : D). AddsNone w x z) (sym e) (left_alone w x)
+
+none_armed : {D : Type 0} (w : Watch D) (old new : StoreView D) (area : ℕ) → area ≤ 1 → CountsNow w → Rests w (area_of old area) (area_of new area) → area_of new (1 - area) ≡ area_of old (1 - area)
+    → AddsNone w (area_a old) (area_a new) × AddsNone w (area_b old) (area_b new)
+none_armed w old new zero less counts rests beside = (rests_adds_none w (area_a old) (area_a new) counts rests, same_none w (area_b old) (area_b new) beside)
+none_armed w old new (suc zero) less counts rests beside = (same_none w (area_a old) (area_a new) beside, rests_adds_none w (area_b old) (area_b new) counts rests)
+none_armed w old new (suc (suc n)) less counts rests beside = absurd (let none : ⊥ = omega (arith, less) in none)
+
+pub armed_sound : {D C S : Type 0} (w : Watch D) (sense : Sense C S) (old : KeptView D C S) (s : StoreView D) (area : ℕ) → area ≤ 1 → CountsNow w → OnlyNow w
+    → Rests w (area_of old.store area) (area_of s area) → area_of s (1 - area) ≡ area_of old.store (1 - area) → ((list : List Frame) → HasFrames w old.store list → HasFrames w s list)
+    → IsSameStore old.store s → IsSound w sense old → IsSound w sense (record old { store = s })
+armed_sound w sense old s area less counts only rests beside has same sound =
+    let none = none_armed w old.store s area less counts rests beside in
+    record {
+      kind = same.kind ∙ sound.kind;
+      now = now_still w sense old (record old { store = s }) counts only sound same none.0 none.1 refl refl;
+      runs = λ e.
+          let r = sound.runs e in
+          record { frames = r.frames; has = has r.frames r.has; stand = r.stand };
+      clear = sound.clear;
+    }
