@@ -8,7 +8,7 @@ use Rattle.tab_codec.specs.declared.frames.Frame.{Frame}
 use Rattle.tab_codec.specs.Spelling.{spelling}
 use Rattle.tab_journal.specs.Areas.{first_gate, header, front, opened, ShutAt, AreFrames, IsOpen, IsClosed, IsOlder, IsUnder, Spells}
 use Rattle.tab_journal.specs.Steps.{EachNow, Adds, IsShutOn, IsEitherShut, IsBuilt, IsClosedOr}
-use Rattle.tab_journal.specs.Stores.{StoreView, area_a, area_b, gates_from, IsSpare, HasFrames, HasPieces, KeptSince}
+use Rattle.tab_journal.specs.Stores.{StoreView, area_a, area_b, gates_from, IsSpare, HasFrames, HasPieces, KeptSince, SpellsEither}
 use Rattle.tab_journal.proofs.Images.{adds_then, adds_weaker}
 use Rattle.tab_journal.proofs.Fronts.{opened_more, front_more, has_header}
 
@@ -226,19 +226,33 @@ end_pairs w store list pieces ta tb new below are kept adds c d c_left d_left =
     pair_tells store.kind store.number store.epoch list pieces c d below are (kept.current c c_left)
     (left_first (kept.other d) (adds.each (cond store.second ta tb) (later_of w store.second store.current store.other ta tb kept.earlier_a kept.earlier_b) d d_left))
 
+on_a_swapped : {D : Type 0} (w : Watch D) (second : Bool) (x y d : D) (t : ℕ) → w.moment y ≤ w.moment d → t ≤ w.moment (cond second y x) → t ≤ w.moment (cond (not second) x d)
+on_a_swapped w false x y d t later earlier = earlier
+on_a_swapped w true x y d t later earlier = omega (arith, later, earlier)
+
+on_b_swapped : {D : Type 0} (w : Watch D) (second : Bool) (x y d : D) (t : ℕ) → w.moment y ≤ w.moment d → t ≤ w.moment (cond second x y) → t ≤ w.moment (cond (not second) d x)
+on_b_swapped w false x y d t later earlier = omega (arith, later, earlier)
+on_b_swapped w true x y d t later earlier = earlier
+
 -- where the areas keep their places
 pub end_images : {D : Type 0} (w : Watch D) (store : StoreView D) (list pieces : List Frame) (ta tb : ℕ) (new : D) → store.epoch + 1 < 2 ^ 64 → AreFrames store.kind pieces → KeptSince w store list ta tb
     → Adds w (IsEitherShut [] (header store.kind store.number (store.epoch + 1) ++ opened pieces)) store.other new
-    → Since w (Spells store.kind store.number) (λ others. (others ≡ list) ⊎ (others ≡ pieces)) ta tb (cond store.second new store.current) (cond store.second store.current new)
-end_images w store list pieces ta tb new below are kept adds =
-    since_ordered w store.kind store.number (λ others. (others ≡ list) ⊎ (others ≡ pieces)) store.second store.current new ta tb (end_pairs w store list pieces ta tb new below are kept adds)
+    → SpellsEither w store.kind store.number list pieces ta tb (cond store.second new store.current) (cond store.second store.current new)
+end_images w store list pieces ta tb new below are kept adds = record {
+  earlier_a = on_a w store.second store.current store.other new ta adds.later kept.earlier_a;
+  earlier_b = on_b w store.second store.current store.other new tb adds.later kept.earlier_b;
+  each = since_ordered w store.kind store.number (λ others. (others ≡ list) ⊎ (others ≡ pieces)) store.second store.current new ta tb (end_pairs w store list pieces ta tb new below are kept adds);
+}
 
 -- and where they change them
 pub end_images_swapped : {D : Type 0} (w : Watch D) (store : StoreView D) (list pieces : List Frame) (ta tb : ℕ) (new : D) → store.epoch + 1 < 2 ^ 64 → AreFrames store.kind pieces → KeptSince w store list ta tb
     → Adds w (IsEitherShut [] (header store.kind store.number (store.epoch + 1) ++ opened pieces)) store.other new
-    → Since w (Spells store.kind store.number) (λ others. (others ≡ list) ⊎ (others ≡ pieces)) ta tb (cond (not store.second) store.current new) (cond (not store.second) new store.current)
-end_images_swapped w store list pieces ta tb new below are kept adds =
-    since_swapped w store.kind store.number (λ others. (others ≡ list) ⊎ (others ≡ pieces)) store.second store.current new ta tb (end_pairs w store list pieces ta tb new below are kept adds)
+    → SpellsEither w store.kind store.number list pieces ta tb (cond (not store.second) store.current new) (cond (not store.second) new store.current)
+end_images_swapped w store list pieces ta tb new below are kept adds = record {
+  earlier_a = on_a_swapped w store.second store.current store.other new ta adds.later kept.earlier_a;
+  earlier_b = on_b_swapped w store.second store.current store.other new tb adds.later kept.earlier_b;
+  each = since_swapped w store.kind store.number (λ others. (others ≡ list) ⊎ (others ≡ pieces)) store.second store.current new ta tb (end_pairs w store list pieces ta tb new below are kept adds);
+}
 
 -- ---- the beginning, once the other area is closed
 

@@ -3,10 +3,8 @@ use Rattle.std.proofs.Common.{◌≡◌, ◌≢◌, ℕ, ◌+◌, ◌<◌, ◌�
 use Rattle.std.specs.Prelude.{◌⊎◌}
 use Rattle.std.proofs.lemmas.List.{take_more}
 use Rattle.tab_outside.specs.Disks.{Watch}
-use Rattle.tab_outside.specs.Pairs.{Tells, Since}
 use Rattle.tab_codec.specs.declared.frames.Frame.{Frame}
-use Rattle.tab_journal.specs.Areas.{Spells}
-use Rattle.tab_journal.specs.Stores.{StoreView, area_a, area_b, IsUnmoved, HasFrames, HasPieces, KeptSince}
+use Rattle.tab_journal.specs.Stores.{StoreView, area_a, area_b, IsUnmoved, HasFrames, HasPieces, KeptSince, SpellsEither}
 use Rattle.tab_journal.proofs.Compacting.{since_ordered}
 
 -- of a store with these frames and no pieces yet, that has so many pieces now
@@ -18,14 +16,17 @@ KeepsOn w first now = (frames : List Frame) (ta tb : ℕ) → HasFrames w first 
 
 -- the images since some moments are those of the frames, whatever is built
 pub kept_since : {D : Type 0} (w : Watch D) (store : StoreView D) (list pieces : List Frame) (ta tb : ℕ) → KeptSince w store list ta tb
-    → Since w (Spells store.kind store.number) (λ others. (others ≡ list) ⊎ (others ≡ pieces)) ta tb (area_a store) (area_b store)
-kept_since w store list pieces ta tb kept =
-    since_ordered w store.kind store.number (λ others. (others ≡ list) ⊎ (others ≡ pieces)) store.second store.current store.other ta tb
-    (λ c d c_left d_left. record {
-      value = list;
-      spelled = inl (record { epoch = store.epoch; current_is = kept.current c c_left; other_is = kept.other d d_left });
-      holds = inl refl;
-    })
+    → SpellsEither w store.kind store.number list pieces ta tb (area_a store) (area_b store)
+kept_since w store list pieces ta tb kept = record {
+  earlier_a = kept.earlier_a;
+  earlier_b = kept.earlier_b;
+  each = since_ordered w store.kind store.number (λ others. (others ≡ list) ⊎ (others ≡ pieces)) store.second store.current store.other ta tb
+      (λ c d c_left d_left. record {
+        value = list;
+        spelled = inl (record { epoch = store.epoch; current_is = kept.current c c_left; other_is = kept.other d d_left });
+        holds = inl refl;
+      });
+}
 
 -- one piece more
 pub one_more : {D : Type 0} (w : Watch D) (first now next : StoreView D) (pieces taken : List Frame) (piece : Frame) → taken ≡ pieces ++ piece ∷ [] → GoesTo w first now pieces
@@ -56,3 +57,9 @@ unmoved_then old mid new first second = record {
 
 pub unmoved_still : {D : Type 0} (store : StoreView D) → IsUnmoved store store
 unmoved_still store = record { same = record { kind = refl; number = refl }; second = refl; epoch = refl; end = refl; other_open = refl; places = refl }
+
+-- the same by the names that the store had before
+pub either_named : {D : Type 0} (w : Watch D) (list pieces : List Frame) (k n kind number ta tb : ℕ) (a b : D) → k ≡ kind → n ≡ number → SpellsEither w k n list pieces ta tb a b
+    → SpellsEither w kind number list pieces ta tb a b
+either_named w list pieces k n kind number ta tb a b is_k is_n either =
+    subst (λ (m : ℕ). SpellsEither w kind m list pieces ta tb a b) is_n (subst (λ (m : ℕ). SpellsEither w m n list pieces ta tb a b) is_k either)

@@ -1,22 +1,24 @@
 -- What is known of something kept between two calls, and what its calls answer.
-use Rattle.std.proofs.Common.{◌≡◌, ℕ, ◌-◌, ◌^◌, ◌≤◌, Bool, true, false, cond, Option, Some, None, Result, Ok, Err, List, [], ◌∷◌, ◌++◌, refl, sym, ap, subst, ◌∙◌, inl, inr, arith}
+use Rattle.std.proofs.Common.{◌≡◌, ℕ, zero, suc, ◌-◌, ◌^◌, ◌≤◌, Bool, true, false, cond, Option, Some, None, Result, Ok, Err, List, [], ◌∷◌, ◌++◌, refl, sym, ap, subst, ◌∙◌, inl, inr, arith}
 use Rattle.std.specs.Prelude.{◌⊎◌}
-use Rattle.tab_outside.specs.Disks.{Watch, CountsNow, OnlyNow, ReadsImage}
-use Rattle.tab_outside.specs.Pairs.{Now, Extends, AddsNone}
+use Rattle.tab_outside.specs.Disks.{Watch, Rests, CountsNow, OnlyNow, ReadsImage}
+use Rattle.tab_outside.specs.Pairs.{Tells, Now, Since, AddsNone}
+use Rattle.tab_outside.proofs.Moments.{rests_adds_none, tells_weaker, now_weaker, since_weaker, since_begins}
 use Rattle.tab_codec.specs.declared.frames.Frame.{Frame}
 use Rattle.tab_journal.specs.Areas.{Spells}
 use Rattle.tab_journal.specs.Fitting.{Fits}
 use Rattle.tab_journal.specs.Reading.{Found, read_areas}
-use Rattle.tab_journal.specs.Stores.{StoreView, area_a, area_b, IsSameStore, IsFaultAlone, IsFaultOrSpent, StoreCauses, fails_by, Answers, HasFrames}
+use Rattle.tab_journal.specs.Stores.{StoreView, area_a, area_b, area_of, IsSameStore, IsFaultOrSpent, StoreCauses, fails_by, Answers, HasFrames, SpellsEither}
 use Rattle.tab_journal.specs.Keeping.{Sense, GoesOn, IfDoubt, Means, Runs, KeptView, IsSound}
-use Rattle.tab_journal.specs.KeptCauses.{passed_on, AfterChange, AfterSettling, AfterCheckpoint, KeptCauses}
+use Rattle.tab_journal.specs.KeptCauses.{passed_on, KeptCauses}
 use Rattle.tab_journal.specs.declared.refusals.StoreRefused.{StoreRefused}
 use Rattle.tab_journal.specs.declared.refusals.StoreRefused.TheVariants as store
 use Rattle.tab_journal.specs.declared.kept.KeptRefused.{KeptRefused}
 use Rattle.tab_journal.specs.declared.kept.KeptRefused.TheVariants as kept
 use Rattle.tab_journal.proofs.Fronts.{ReadsBack}
 use Rattle.tab_journal.proofs.PairLaws.{same_frames, not_both, spelled_read}
-use Rattle.tab_journal.proofs.Keeping.{running_now, still_now}
+use Rattle.tab_journal.proofs.Running.{left_alone}
+use Rattle.tab_journal.proofs.Keeping.{frames_now, running_now, still_now}
 
 -- ---- soundness
 
@@ -111,47 +113,85 @@ causes_pass T U faults old new refused x is causes = record {
   fault = λ area e. causes.fault area (ap (store_refused {T = U}) (fault_of refused area (sym is ∙ same_refusal {T = T} x (kept.DiskFault area) e)));
 }
 
-pub change_refused : {D C S : Type 0} (T U : Type 0) (sense : Sense C S) (old new : KeptView D C S) (step : S) (refused : StoreRefused) (x : KeptRefused) → x ≡ passed_on refused → IsFaultAlone {T = U} (Err refused)
-    → new.held ≡ old.held → new.doubt ≡ Some step → new.failed ≡ true → AfterChange {T = T} sense old new step (Err x)
-change_refused T U sense old new step (store.DiskFault area) x is alone held doubt failed =
-    subst (λ (y : KeptRefused). AfterChange {T = T} sense old new step (Err y)) (sym is) (held, doubt, failed)
-change_refused T U sense old new step (store.NotAStore area at) x is alone held doubt failed = absurd alone
-change_refused T U sense old new step store.EpochSpent x is alone held doubt failed = absurd alone
-change_refused T U sense old new step store.Memory x is alone held doubt failed = absurd alone
+-- ---- a checkpoint
 
-pub settling_refused : {D C S : Type 0} (sense : Sense C S) (old new : KeptView D C S) (refused : StoreRefused) (x : KeptRefused) → x ≡ passed_on refused → (refused ≡ store.EpochSpent → ⊥)
-    → new.held ≡ old.held → new.doubt ≡ old.doubt → new.failed ≡ true → AfterSettling sense old new (Err x)
-settling_refused sense old new (store.DiskFault area) x is unspent held doubt failed = subst (λ (y : KeptRefused). AfterSettling sense old new (Err y)) (sym is) (held, doubt, failed)
-settling_refused sense old new (store.NotAStore area at) x is unspent held doubt failed = subst (λ (y : KeptRefused). AfterSettling sense old new (Err y)) (sym is) (held, doubt, failed)
-settling_refused sense old new store.EpochSpent x is unspent held doubt failed = absurd (unspent refl)
-settling_refused sense old new store.Memory x is unspent held doubt failed = subst (λ (y : KeptRefused). AfterSettling sense old new (Err y)) (sym is) (held, doubt, failed)
+pub both_stand : {C S : Type 0} (sense : Sense C S) (held : C) (list pieces : List Frame) → sense.stands list held → sense.stands pieces held → (fs : List Frame) → (fs ≡ list) ⊎ (fs ≡ pieces)
+    → sense.stands fs held
+both_stand sense held list pieces stand stand_too fs (inl same) = subst (λ (gs : List Frame). sense.stands gs held) (sym same) stand
+both_stand sense held list pieces stand stand_too fs (inr same) = subst (λ (gs : List Frame). sense.stands gs held) (sym same) stand_too
 
-same_kept : {D C S : Type 0} (old : KeptView D C S) (s : StoreView D) → s ≡ old.store → s.failed ≡ false → old.failed ≡ false → record old { store = s; failed = s.failed } ≡ old
-same_kept {D = D} old s is failed running =
-    ap (λ (b : Bool). record old { store = s; failed = b }) (failed ∙ sym running) ∙ ap (λ (t : StoreView D). record old { store = t }) is
+pub either_now : {D : Type 0} (w : Watch D) (kind number : ℕ) (list pieces : List Frame) (ta tb : ℕ) (a b : D) (P : List Frame → Type 0) → CountsNow w → ((fs : List Frame) → (fs ≡ list) ⊎ (fs ≡ pieces) → P fs)
+    → SpellsEither w kind number list pieces ta tb a b → Now w (Spells kind number) P a b
+either_now w kind number list pieces ta tb a b P counts to either c d c_left d_left =
+    tells_weaker (Spells kind number) (λ fs. (fs ≡ list) ⊎ (fs ≡ pieces)) P c d to (either.each c d (counts a ta c either.earlier_a c_left) (counts b tb d either.earlier_b d_left))
 
-pub checkpoint_refused : {D C S : Type 0} (T U : Type 0) (old : KeptView D C S) (s : StoreView D) (refused : StoreRefused) (x : KeptRefused) → x ≡ passed_on refused → IsFaultOrSpent {T = U} (Err refused)
-    → s.failed ≡ fails_by {T = U} false (Err refused) → old.failed ≡ false → (refused ≡ store.EpochSpent → (s ≡ old.store) × (old.store.epoch ≡ 2 ^ 64 - 1))
-    → AfterCheckpoint {T = T} old (record old { store = s; failed = s.failed }) (Err x)
-checkpoint_refused T U old s (store.DiskFault area) x is alone failed running spent =
-    subst (λ (y : KeptRefused). AfterCheckpoint {T = T} old (record old { store = s; failed = s.failed }) (Err y)) (sym is) (refl, refl, failed)
-checkpoint_refused T U old s (store.NotAStore area at) x is alone failed running spent = absurd alone
-checkpoint_refused T U old s store.EpochSpent x is alone failed running spent =
-    let so = spent refl in
-    subst (λ (y : KeptRefused). AfterCheckpoint {T = T} old (record old { store = s; failed = s.failed }) (Err y)) (sym is) (same_kept old s so.0 failed running, so.1)
-checkpoint_refused T U old s store.Memory x is alone failed running spent = absurd alone
+pub either_since : {D : Type 0} (w : Watch D) (kind number : ℕ) (list pieces : List Frame) (ta tb : ℕ) (a b : D) (P : List Frame → Type 0) → ((fs : List Frame) → (fs ≡ list) ⊎ (fs ≡ pieces) → P fs)
+    → SpellsEither w kind number list pieces ta tb a b → Since w (Spells kind number) P ta tb a b
+either_since w kind number list pieces ta tb a b P to either = since_weaker w (Spells kind number) (λ fs. (fs ≡ list) ⊎ (fs ≡ pieces)) P ta tb a b to either.each
+
+-- nothing was written
+pub runs_since : {D C S : Type 0} (w : Watch D) (sense : Sense C S) (store : StoreView D) (held : C) → OnlyNow w → Runs w sense store held
+    → Since w (Spells store.kind store.number) (λ fs. sense.stands fs held) (w.moment (area_a store)) (w.moment (area_b store)) (area_a store) (area_b store)
+runs_since w sense store held only runs =
+    since_begins w (Spells store.kind store.number) (λ fs. sense.stands fs held) (area_a store) (area_b store) only
+    (now_weaker w (Spells store.kind store.number) (λ fs. fs ≡ runs.frames) (λ fs. sense.stands fs held) (area_a store) (area_b store)
+    (λ fs same. subst (λ (gs : List Frame). sense.stands gs held) (sym same) runs.stand) (frames_now w store runs.frames runs.has))
+
+pub sound_after : {D C S : Type 0} (U : Type 0) (w : Watch D) (sense : Sense C S) (old : KeptView D C S) (s : StoreView D) (b : Bool) (refused : StoreRefused) → IsFaultOrSpent {T = U} (Err refused)
+    → b ≡ fails_by {T = U} false (Err refused) → old.failed ≡ false → (refused ≡ store.EpochSpent → s ≡ old.store) → IsSound w sense old → s.kind ≡ old.store.kind
+    → Now w (Spells s.kind s.number) (Means sense old.held old.doubt) (area_a s) (area_b s) → IsSound w sense (record old { store = s; failed = b })
+sound_after U w sense old s b (store.DiskFault area) alone failed running untouched sound kind now = sound_failed w sense (record old { store = s; failed = b }) (kind ∙ sound.kind) failed now
+sound_after U w sense old s b (store.NotAStore area at) alone failed running untouched sound kind now = absurd alone
+sound_after {D = D} U w sense old s b store.EpochSpent alone failed running untouched sound kind now = record {
+  kind = kind ∙ sound.kind;
+  now = now;
+  runs = λ e. subst (λ (t : StoreView D). Runs w sense t old.held) (sym (untouched refl)) (sound.runs running);
+  clear = λ e. sound.clear running;
+}
+sound_after U w sense old s b store.Memory alone failed running untouched sound kind now = absurd alone
 
 -- ---- a settling that was refused
 
-pub settled_still : {D C S : Type 0} (w : Watch D) (sense : Sense C S) (old new : KeptView D C S) → CountsNow w → OnlyNow w → IsSound w sense old → IsSameStore old.store new.store
-    → AddsNone w (area_a old.store) (area_a new.store) → AddsNone w (area_b old.store) (area_b new.store) → new.held ≡ old.held → new.doubt ≡ old.doubt → new.failed ≡ true → IsSound w sense new
-settled_still {C = C} {S = S} w sense old new counts only sound same none_a none_b held doubt failed =
-    sound_failed w sense new (same.kind ∙ sound.kind) failed
-    (subst (λ (x : C). Now w (Spells new.store.kind new.store.number) (Means sense x new.doubt) (area_a new.store) (area_b new.store)) (sym held)
+-- the images are as they were, and so is what is held and what is in doubt
+now_still : {D C S : Type 0} (w : Watch D) (sense : Sense C S) (old new : KeptView D C S) → CountsNow w → OnlyNow w → IsSound w sense old → IsSameStore old.store new.store
+    → AddsNone w (area_a old.store) (area_a new.store) → AddsNone w (area_b old.store) (area_b new.store) → new.held ≡ old.held → new.doubt ≡ old.doubt
+    → Now w (Spells new.store.kind new.store.number) (Means sense new.held new.doubt) (area_a new.store) (area_b new.store)
+now_still {C = C} {S = S} w sense old new counts only sound same none_a none_b held doubt =
+    subst (λ (x : C). Now w (Spells new.store.kind new.store.number) (Means sense x new.doubt) (area_a new.store) (area_b new.store)) (sym held)
     (subst (λ (d : Option S). Now w (Spells new.store.kind new.store.number) (Means sense old.held d) (area_a new.store) (area_b new.store)) (sym doubt)
     (now_named w (Means sense old.held old.doubt) old.store new.store same
-    (still_now w old.store.kind old.store.number (Means sense old.held old.doubt) (area_a old.store) (area_b old.store) (area_a new.store) (area_b new.store) counts only none_a none_b sound.now))))
+    (still_now w old.store.kind old.store.number (Means sense old.held old.doubt) (area_a old.store) (area_b old.store) (area_a new.store) (area_b new.store) counts only none_a none_b sound.now)))
+
+pub settled_still : {D C S : Type 0} (w : Watch D) (sense : Sense C S) (old new : KeptView D C S) → CountsNow w → OnlyNow w → IsSound w sense old → IsSameStore old.store new.store
+    → AddsNone w (area_a old.store) (area_a new.store) → AddsNone w (area_b old.store) (area_b new.store) → new.held ≡ old.held → new.doubt ≡ old.doubt → new.failed ≡ true → IsSound w sense new
+settled_still w sense old new counts only sound same none_a none_b held doubt failed =
+    sound_failed w sense new (same.kind ∙ sound.kind) failed (now_still w sense old new counts only sound same none_a none_b held doubt)
 
 pub unread_at : {D : Type 0} (Z : Type 0) (new : StoreView D) (read : Result Found (ℕ × ℕ)) (refused : StoreRefused) (area at : ℕ) → refused ≡ store.NotAStore area at → Answers {Z = Z} new (Err refused) read
     → read ≡ Err (area, at)
 unread_at Z new read refused area at is answers = subst (λ (r : StoreRefused). Answers {Z = Z} new (Err r) read) is answers
+
+-- ---- a failure or a stop that is armed
+
+same_none : {D : Type 0} (w : Watch D) (x y : D) → y ≡ x → AddsNone w x y
+same_none {D = D} w x y e = subst (λ (z : D). AddsNone w x z) (sym e) (left_alone w x)
+
+none_armed : {D : Type 0} (w : Watch D) (old new : StoreView D) (area : ℕ) → area ≤ 1 → CountsNow w → Rests w (area_of old area) (area_of new area) → area_of new (1 - area) ≡ area_of old (1 - area)
+    → AddsNone w (area_a old) (area_a new) × AddsNone w (area_b old) (area_b new)
+none_armed w old new zero less counts rests beside = (rests_adds_none w (area_a old) (area_a new) counts rests, same_none w (area_b old) (area_b new) beside)
+none_armed w old new (suc zero) less counts rests beside = (same_none w (area_a old) (area_a new) beside, rests_adds_none w (area_b old) (area_b new) counts rests)
+none_armed w old new (suc (suc n)) less counts rests beside = absurd (let none : ⊥ = omega (arith, less) in none)
+
+pub armed_sound : {D C S : Type 0} (w : Watch D) (sense : Sense C S) (old : KeptView D C S) (s : StoreView D) (area : ℕ) → area ≤ 1 → CountsNow w → OnlyNow w
+    → Rests w (area_of old.store area) (area_of s area) → area_of s (1 - area) ≡ area_of old.store (1 - area) → ((list : List Frame) → HasFrames w old.store list → HasFrames w s list)
+    → IsSameStore old.store s → IsSound w sense old → IsSound w sense (record old { store = s })
+armed_sound w sense old s area less counts only rests beside has same sound =
+    let none = none_armed w old.store s area less counts rests beside in
+    record {
+      kind = same.kind ∙ sound.kind;
+      now = now_still w sense old (record old { store = s }) counts only sound same none.0 none.1 refl refl;
+      runs = λ e.
+          let r = sound.runs e in
+          record { frames = r.frames; has = has r.frames r.has; stand = r.stand };
+      clear = sound.clear;
+    }

@@ -1,6 +1,7 @@
 -- What contracts see of a store, and what its two disks hold.
 use Rattle.std.specs.Prelude.{◌≡◌, ℕ, ◌+◌, ◌<◌, ◌≤◌, ◌^◌, ◌⊎◌, List, [], ◌∷◌, ◌++◌, ◌==◌, length, take, Bool, true, false, cond, Option, None, Some, Result, Ok, Err, Vec, vec_items}
 use Rattle.tab_outside.specs.Disks.{Watch, LeavesOnly}
+use Rattle.tab_outside.specs.Pairs.{Since}
 use Rattle.tab_outside.specs.Faults.{Rose}
 use Rattle.tab_codec.specs.declared.frames.Frame.{Frame}
 use Rattle.tab_journal.specs.Areas.{header, opened, front, first_gate, AreFrames, IsOpen, IsUnder, IsOlder, IsClosed, Spells}
@@ -178,3 +179,9 @@ pub record KeptSince {D : Type 0} (w : Watch D) (store : StoreView D) (frames : 
   pub earlier_b : tb ≤ w.moment (area_b store)
   pub current : (c : List ℕ) → w.left_since store.current (cond store.second tb ta) c → IsOpen store.kind store.number store.epoch frames c
   pub other : (d : List ℕ) → w.left_since store.other (cond store.second ta tb) d → IsUnder store.kind store.number store.epoch d
+
+-- each pair of images since some moments spells the frames or the pieces
+pub record SpellsEither {D : Type 0} (w : Watch D) (kind number : ℕ) (frames pieces : List Frame) (ta tb : ℕ) (a b : D) : Type 0 where
+  pub earlier_a : ta ≤ w.moment a
+  pub earlier_b : tb ≤ w.moment b
+  pub each : Since w (Spells kind number) (λ others. (others ≡ frames) ⊎ (others ≡ pieces)) ta tb a b

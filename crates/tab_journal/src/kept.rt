@@ -2,10 +2,11 @@
 
 ghost use Rattle.std.specs.Prelude.{◌≡◌, ℕ, ◌-◌, ◌^◌, ◌≤◌, ◌⊎◌, ◌||◌, ◌&&◌, List, false, true, None, Some, IsTrue, IsFalse, IfOk, IfErr, OnOk, OnErr, IfSome, Ok, Err};
 ghost use Rattle.tab_outside.specs.Armed.{with_fail, with_stop};
+ghost use Rattle.tab_outside.specs.Disks.{Rests};
 ghost use Rattle.tab_outside.specs.Pairs.{Extends, AddsNone, Since};
 ghost use Rattle.tab_codec.specs.declared.frames.Frame.{Frame};
 ghost use Rattle.tab_journal.specs.Areas.{Spells};
-ghost use Rattle.tab_journal.specs.Stores.{area_a, area_b, area_of, IsSameStore, HasFrames};
+ghost use Rattle.tab_journal.specs.Stores.{area_a, area_b, area_of, IsSameStore, IsUnmoved, HasFrames};
 ghost use Rattle.tab_journal.specs.Keeping.{Sense, GoesOn, ChecksOut, IsSound, IsRewritten};
 ghost use Rattle.tab_journal.specs.KeptCauses.{passed_on, AfterChange, AfterSettling, AfterCheckpoint, KeptCauses};
 ghost use Rattle.tab_journal.specs.declared.kept.KeptRefused.TheVariants.{Damaged};
@@ -245,6 +246,40 @@ impl<D: Disk, C: Content> Kept<D, C> {
         ensures b { result.1 ≡ area_b self.store }
     {
         self.store.into_disks()
+    }
+
+    /// Makes the call number `after` from now on the disk of an area fail once; false where the disk
+    /// has no such thing.
+    pub fn arm_fail(&mut self, area: u8, after: u64) -> bool
+        requires { area ≤ 1 }
+        ensures has { result ≡ D.has_stops (area_of self.old.store area) }
+        ensures armed { IsTrue result → D.armed (area_of self.new.store area) ≡ with_fail (D.armed (area_of self.old.store area)) after }
+        ensures beside { area_of self.new.store (1 - area) ≡ area_of self.old.store (1 - area) }
+        ensures unchanged { IsFalse result → self.new ≡ self.old }
+        ensures rests { D.honest → Rests D.watch (area_of self.old.store area) (area_of self.new.store area) }
+        ensures faults { D.faults (area_of self.new.store area) ≡ D.faults (area_of self.old.store area) }
+        ensures sound { D.honest → IsSound D.watch C.sense self.old → IsSound D.watch C.sense self.new }
+        ensures kept { (self.new.held ≡ self.old.held) × (self.new.doubt ≡ self.old.doubt) × (self.new.failed ≡ self.old.failed) }
+        ensures unmoved { IsUnmoved self.old.store self.new.store }
+    {
+        self.store.arm_fail(area, after)
+    }
+
+    /// Makes the call number `after` from now on the disk of an area, and all that follow it, fail; false where the disk
+    /// has no such thing.
+    pub fn arm_stop(&mut self, area: u8, after: u64) -> bool
+        requires { area ≤ 1 }
+        ensures has { result ≡ D.has_stops (area_of self.old.store area) }
+        ensures armed { IsTrue result → D.armed (area_of self.new.store area) ≡ with_stop (D.armed (area_of self.old.store area)) after }
+        ensures beside { area_of self.new.store (1 - area) ≡ area_of self.old.store (1 - area) }
+        ensures unchanged { IsFalse result → self.new ≡ self.old }
+        ensures rests { D.honest → Rests D.watch (area_of self.old.store area) (area_of self.new.store area) }
+        ensures faults { D.faults (area_of self.new.store area) ≡ D.faults (area_of self.old.store area) }
+        ensures sound { D.honest → IsSound D.watch C.sense self.old → IsSound D.watch C.sense self.new }
+        ensures kept { (self.new.held ≡ self.old.held) × (self.new.doubt ≡ self.old.doubt) × (self.new.failed ≡ self.old.failed) }
+        ensures unmoved { IsUnmoved self.old.store self.new.store }
+    {
+        self.store.arm_stop(area, after)
     }
 
     /// Whether a call on one of the disks has met an armed stop.

@@ -4,13 +4,13 @@ ghost use Rattle.std.specs.Prelude.{get_or, min, not, ◌==◌, ◌≡◌, ◌�
 ghost use Rattle.tab_outside.specs.Armed.{after_call, with_fail, with_stop};
 ghost use Rattle.tab_outside.specs.Disks.{LeavesOnly, Rests};
 ghost use Rattle.tab_outside.specs.Faults.{HasCause};
-ghost use Rattle.tab_outside.specs.Pairs.{Extends, AddsNone, Since};
+ghost use Rattle.tab_outside.specs.Pairs.{Extends, AddsNone};
 ghost use Rattle.tab_codec.specs.declared.frames.Frame.{Frame};
 ghost use Rattle.tab_codec.specs.Frames.{AreBytes};
 ghost use Rattle.tab_journal.specs.Areas.{Spells, AreFrames, IsClosed, IsUnder, opened, first_gate};
 ghost use Rattle.tab_journal.specs.Fitting.{Fits};
 ghost use Rattle.tab_journal.specs.Reading.{front_of, is_open, read_areas};
-ghost use Rattle.tab_journal.specs.Stores.{StoreView, area_a, area_b, current_area, area_of, is_fault, IsFaultOrMemory, IsSameStore, IsUnmoved, StoreCauses, fails_by, IsFaultAlone, IsFaultOrSpent, ReadsAreas, Answers, adopted, IsSpare, HasFrames, HasPieces, KeptSince, gates_from};
+ghost use Rattle.tab_journal.specs.Stores.{StoreView, area_a, area_b, current_area, area_of, is_fault, IsFaultOrMemory, IsSameStore, IsUnmoved, StoreCauses, fails_by, IsFaultAlone, IsFaultOrSpent, ReadsAreas, Answers, adopted, IsSpare, HasFrames, HasPieces, KeptSince, SpellsEither, gates_from};
 ghost use Rattle.tab_journal.specs.Steps.{EachNow, Adds};
 ghost use Rattle.tab_journal.specs.declared.refusals.StoreRefused.TheVariants.{DiskFault, EpochSpent};
 
@@ -219,7 +219,7 @@ impl<D: Disk> Store<D> {
             → OnOk result (HasFrames D.watch self.new pieces) }
         ensures images { D.honest → (frames pieces : List Frame) (ta tb : ℕ) → HasFrames D.watch self.old frames → HasPieces D.watch self.old pieces → AreFrames self.old.kind pieces
             → KeptSince D.watch self.old frames ta tb
-            → Since D.watch (Spells self.old.kind self.old.number) (λ others. (others ≡ frames) ⊎ (others ≡ pieces)) ta tb (area_a self.new) (area_b self.new) }
+            → SpellsEither D.watch self.old.kind self.old.number frames pieces ta tb (area_a self.new) (area_b self.new) }
         ensures same { IsSameStore self.old self.new }
         ensures epoch { OnOk result (self.new.epoch ≡ min (self.old.epoch + 1) (2 ^ 64 - 1)) }
         ensures second { OnOk result (self.new.second ≡ not self.old.second) }

@@ -29,3 +29,8 @@ loop-piece-preserved g c =
       later_a = omega (arith, i.later_a, c.compact_piece.ensures.causes.later_a);
       later_b = omega (arith, i.later_b, c.compact_piece.ensures.causes.later_b);
     }
+
+pub returns-in_err-compact_piece-clause-images : goal.returns-in_err-compact_piece-clause-images
+returns-in_err-compact_piece-clause-images g c honest =
+    let i = c.loop-piece.invariant in
+    keeps_more g.D.Disk.watch _ _ _ (take c.loop-piece.piece-index c.args.pieces.now) (i.has honest) (i.keeps honest) (c.compact_piece.ensures.images honest)
