@@ -5,8 +5,6 @@
 mod areas;
 mod disks;
 mod fitting;
-#[cfg(test)]
-mod fitting_tests;
 mod headers;
 mod kept;
 mod laws;
@@ -18,8 +16,6 @@ mod reading;
 mod refusals;
 mod rewriting;
 mod store;
-#[cfg(test)]
-mod tests;
 
 pub use fitting::{MAP_KIND, NAMES_KIND, SERVER_KIND};
 pub use kept::{Content, Kept, KeptRefused};

@@ -17,4 +17,6 @@ mod readings;
 #[cfg(test)]
 mod seats;
 #[cfg(test)]
+mod stores;
+#[cfg(test)]
 mod texts;

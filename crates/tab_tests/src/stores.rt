@@ -1,9 +1,9 @@
-//! A store over disks in memory: its bytes, each call of an append failed and stopped under each picture, a compaction
-//! stopped at each call, and frames that do not fit.
-use crate::{MAP_KIND, NAMES_KIND, SERVER_KIND, Store, StoreRefused};
+//! A store over disks in memory: its bytes, each call of an append and of a compaction failed and stopped under each picture, and
+//! bytes that are no store.
 use std::alloc::Global;
 use std::test::Fail;
 use tab_codec::{Frame, FrameList, RangeRow, prepare};
+use tab_journal::{MAP_KIND, NAMES_KIND, SERVER_KIND, Store, StoreRefused};
 use tab_keys::{Bound, KeyText, Span};
 use tab_outside::{Disk, MemDisk};
 
