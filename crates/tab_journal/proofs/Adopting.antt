@@ -1,18 +1,17 @@
 -- A store whose areas were read has the frames that were read.
-use Rattle.std.proofs.Common.{◌≡◌, ℕ, ◌+◌, ◌<◌, ◌≤◌, ◌^◌, Bool, true, false, cond, inl, inr, Result, Ok, Err, None, List, [], ◌∷◌, ◌++◌, length, take, refl, sym, ap, subst, ◌∙◌, arith, length-append}
-use Rattle.std.specs.Prelude.{◌⊎◌, ◌==◌, vec_items}
+use Rattle.std.proofs.Common.{◌≡◌, ℕ, ◌+◌, ◌<◌, ◌^◌, Bool, true, false, cond, inl, inr, Ok, None, List, ◌∷◌, ◌++◌, length, take, refl, sym, ap, subst, ◌∙◌, arith, length-append}
+use Rattle.std.specs.Prelude.{◌==◌, vec_items}
 use Rattle.std.specs.Int.{w64, to_be_bytes}
 use Rattle.std.proofs.lemmas.Bool.Decides.{nat_tests}
 use Rattle.std.proofs.Math.Seq.{take-length}
 use Rattle.tab_outside.specs.Disks.{Watch, LeavesOnly}
 use Rattle.tab_codec.specs.declared.frames.Frame.{Frame}
 use Rattle.tab_codec.specs.Frames.{AreBytes}
-use Rattle.tab_journal.specs.Areas.{stamp, header, opened, front, first_gate, IsOpen, IsClosed, IsOlder}
-use Rattle.tab_journal.specs.Steps.{EachNow, IsShutOn}
+use Rattle.tab_journal.specs.Areas.{stamp, header, opened, front, first_gate, IsOpen, IsClosed}
+use Rattle.tab_journal.specs.Steps.{IsShutOn}
 use Rattle.tab_journal.specs.Reading.{front_of, frames_of, is_open, Found, read_areas}
 use Rattle.tab_journal.specs.Stores.{StoreView, area_a, area_b, adopted, gates_from, IsSpare, HasFrames}
 use Rattle.tab_journal.specs.declared.reading.Front.{Front}
-use Rattle.tab_journal.specs.declared.reading.Front.TheVariants.{Empty, Closed, NoHeader, Open}
 use Rattle.tab_journal.specs.declared.reading.Reading.{Reading}
 use Rattle.tab_journal.proofs.Opening.{IsBelow, Counts, found_is, frames_are, open_is, closed_is}
 

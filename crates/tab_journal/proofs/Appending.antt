@@ -1,11 +1,11 @@
 -- What an append does to the pairs of images of both areas.
-use Rattle.std.proofs.Common.{◌≡◌, ℕ, ◌+◌, ◌<◌, ◌≤◌, ◌^◌, Bool, true, false, cond, List, [], ◌∷◌, ◌++◌, length, refl, sym, ap, subst, ◌∙◌, inl, inr, arith}
+use Rattle.std.proofs.Common.{◌≡◌, ℕ, ◌<◌, ◌≤◌, ◌^◌, Bool, true, false, cond, List, refl, sym, subst, inl, inr}
 use Rattle.std.specs.Prelude.{◌⊎◌}
-use Rattle.tab_outside.specs.Disks.{Watch, CountsNow, LeavesOnly}
+use Rattle.tab_outside.specs.Disks.{Watch, CountsNow}
 use Rattle.tab_outside.specs.Pairs.{Tells, Was, Extends, AddsNone}
 use Rattle.tab_codec.specs.declared.frames.Frame.{Frame}
-use Rattle.tab_journal.specs.Areas.{IsOpen, IsClosed, IsOlder, IsUnder, Keeps, Spells}
-use Rattle.tab_journal.specs.Steps.{EachNow, Adds}
+use Rattle.tab_journal.specs.Areas.{IsOpen, IsUnder, Spells}
+use Rattle.tab_journal.specs.Steps.{Adds}
 use Rattle.tab_journal.proofs.Fronts.{ReadsBack, one_epoch, one_list, older_epoch, not_closed, has_header}
 
 module _ (reads : ReadsBack) (kind number : ℕ) where

@@ -1,12 +1,12 @@
 -- Where the copy of a range stands.
-use Rattle.std.proofs.Common.{◌≡◌, ℕ, zero, suc, ◌+◌, ◌<◌, ◌≤◌, Bool, true, false, not, cond, ltb, Option, Some, None, List, [], ◌∷◌, length, get_or, set, refl, sym, ap, ◌∙◌, arith}
+use Rattle.std.proofs.Common.{◌≡◌, ℕ, suc, ◌+◌, ◌<◌, ◌≤◌, Bool, true, false, not, cond, ltb, Some, None, List, [], ◌∷◌, length, get_or, set, refl, sym, ap, ◌∙◌, arith}
 use Rattle.std.specs.Prelude.{◌==◌, Result, Ok, Err, IfOk, IsTrue}
-use Rattle.std.specs.List.{position_or_len, slice_get}
+use Rattle.std.specs.List.{position_or_len}
 use Rattle.std.proofs.lemmas.Bool.Decides.{nat_tests}
 use Rattle.std.proofs.lemmas.List.Folds.{find_at}
 use Rattle.std.proofs.lemmas.Option.{slice_get-get_or, slice_get_past}
 use Rattle.tab_journal.specs.declared.ranges.RangeTold.{RangeTold}
-use Rattle.tab_journal.specs.Told.{begun, at_range}
+use Rattle.tab_journal.specs.Told.{at_range}
 use Rattle.tab_journal.specs.Begun.{IsBegunAt, IsPlaceOf}
 
 abbrev pub place : ℕ → List RangeTold → ℕ

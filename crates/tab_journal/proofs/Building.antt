@@ -1,9 +1,9 @@
 -- How an area is built while it is closed, and opened.
-use Rattle.std.proofs.Common.{◌≡◌, ℕ, zero, suc, ◌+◌, ◌≤◌, List, [], ◌∷◌, ◌++◌, length, drop, inl, inr, refl, sym, ap, subst, ◌∙◌, arith, append_assoc, length-append}
-use Rattle.std.specs.Prelude.{◌≢◌, ◌⊎◌}
-use Rattle.tab_outside.specs.Disks.{Watch, Rests, Wrote, Torn, LeavesOnly, ReadsImage, overwritten}
-use Rattle.tab_journal.specs.Areas.{ShutAt, IsClosed}
-use Rattle.tab_journal.specs.Steps.{EachNow, Adds, IsShutOn, IsClosedOr, IsBuilt}
+use Rattle.std.proofs.Common.{◌≡◌, ℕ, zero, suc, ◌+◌, ◌≤◌, List, [], ◌∷◌, ◌++◌, length, drop, inl, inr, refl, sym, ap, subst, ◌∙◌, arith, append_assoc}
+use Rattle.std.specs.Prelude.{◌≢◌}
+use Rattle.tab_outside.specs.Disks.{Watch, Wrote, Torn, LeavesOnly, ReadsImage, overwritten}
+use Rattle.tab_journal.specs.Areas.{IsClosed}
+use Rattle.tab_journal.specs.Steps.{EachNow, IsClosedOr, IsBuilt}
 use Rattle.tab_journal.proofs.Bytes.{torn_gate, written_at, shut_stays}
 use Rattle.tab_journal.proofs.Images.{IsStaged, each_wrote}
 

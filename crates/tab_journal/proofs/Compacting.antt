@@ -1,15 +1,15 @@
 -- What the calls of a compaction leave of a store.
-use Rattle.std.proofs.Common.{◌≡◌, ℕ, ◌+◌, ◌<◌, ◌≤◌, ◌^◌, Bool, true, false, not, cond, Option, Some, None, List, [], ◌∷◌, ◌++◌, length, take, refl, sym, ap, subst, ◌∙◌, inl, inr, arith, append_assoc, length-append}
+use Rattle.std.proofs.Common.{◌≡◌, ℕ, ◌+◌, ◌<◌, ◌≤◌, ◌^◌, Bool, true, false, not, cond, Option, Some, None, List, [], ◌∷◌, ◌++◌, length, refl, sym, ap, subst, ◌∙◌, inl, inr, arith, append_assoc, length-append}
 use Rattle.std.specs.Prelude.{◌⊎◌}
 use Rattle.std.proofs.lemmas.List.{append-nil}
-use Rattle.tab_outside.specs.Disks.{Watch, CountsNow, OnlyNow, ReadsImage, LeavesOnly}
-use Rattle.tab_outside.specs.Pairs.{Tells, Since, AddsNone}
+use Rattle.tab_outside.specs.Disks.{Watch, OnlyNow, ReadsImage}
+use Rattle.tab_outside.specs.Pairs.{Tells, Since}
 use Rattle.tab_codec.specs.declared.frames.Frame.{Frame}
 use Rattle.tab_codec.specs.Spelling.{spelling}
-use Rattle.tab_journal.specs.Areas.{first_gate, header, front, opened, ShutAt, AreFrames, IsOpen, IsClosed, IsOlder, IsUnder, Spells}
+use Rattle.tab_journal.specs.Areas.{header, front, opened, ShutAt, AreFrames, IsOpen, IsClosed, IsOlder, IsUnder, Spells}
 use Rattle.tab_journal.specs.Steps.{EachNow, Adds, IsShutOn, IsEitherShut, IsBuilt, IsClosedOr}
-use Rattle.tab_journal.specs.Stores.{StoreView, area_a, area_b, gates_from, IsSpare, HasFrames, HasPieces, KeptSince, SpellsEither}
-use Rattle.tab_journal.proofs.Images.{adds_then, adds_weaker}
+use Rattle.tab_journal.specs.Stores.{StoreView, area_a, area_b, IsSpare, HasFrames, HasPieces, KeptSince, SpellsEither}
+use Rattle.tab_journal.proofs.Images.{adds_weaker}
 use Rattle.tab_journal.proofs.Fronts.{opened_more, front_more, has_header}
 
 -- ---- closing the other area

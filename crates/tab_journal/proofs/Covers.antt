@@ -1,6 +1,6 @@
 -- Rows that agree at the bounds of all of them have the same keys: whether a key is covered is as at the greatest bound
 -- that is not past it.
-use Rattle.std.proofs.Common.{◌≡◌, ℕ, Bool, true, false, not, ◌&&◌, ◌||◌, cond, List, [], ◌∷◌, refl, sym, ap, ◌∙◌}
+use Rattle.std.proofs.Common.{◌≡◌, ℕ, Bool, true, false, not, ◌&&◌, ◌||◌, List, [], ◌∷◌, refl, sym, ap, ◌∙◌}
 use Rattle.std.specs.Bool.{beq}
 use Rattle.std.specs.List.{list_any, list_all, AllByRecursion}
 use Rattle.std.proofs.lemmas.Bool.{true≢false}
@@ -15,7 +15,7 @@ use Rattle.tab_keys.specs.declared.keys.Key.{Key}
 use Rattle.tab_keys.specs.declared.bounds.Bound.{Bound}
 use Rattle.tab_keys.specs.declared.bounds.Bound.TheVariants.{At, End}
 use Rattle.tab_codec.specs.declared.frames.RangeRow.{RangeRow}
-use Rattle.tab_journal.specs.Told.{covers, begins_in, agree_at, agree_in, same_keys}
+use Rattle.tab_journal.specs.Told.{covers, begins_in, agree_in, same_keys}
 
 abbrev all : List RangeRow → Bound → Bool
 all rows bound = list_any (λ row. begins_in row.span bound) rows

@@ -1,21 +1,17 @@
 -- How areas are spelled: one more frame behind others, and that an area has one epoch and one list of frames.
-use Rattle.std.proofs.Common.{◌≡◌, ℕ, ◌+◌, ◌<◌, ◌≤◌, ◌^◌, Bool, true, false, ◌&&◌, Option, Some, None, Result, Ok, Err, List, [], ◌∷◌, ◌++◌, length, take, drop, refl, sym, ap, subst, ◌∙◌, arith, append_assoc, length-append}
-use Rattle.std.specs.Prelude.{◌≢◌, ◌⊎◌, min}
+use Rattle.std.proofs.Common.{◌≡◌, ℕ, ◌<◌, ◌^◌, Bool, true, false, ◌&&◌, Result, Ok, List, [], ◌∷◌, ◌++◌, length, take, drop, refl, sym, ap, ◌∙◌, arith, append_assoc}
+use Rattle.std.specs.Prelude.{◌≢◌}
 use Rattle.std.specs.List.{AllByRecursion}
 use Rattle.std.specs.Int.{w64, to_be_bytes, from_be_bytes}
 use Rattle.std.proofs.lemmas.Nat.{from_be_bytes-to_be_bytes_8}
-use Rattle.std.proofs.lemmas.List.{append-nil, take_at, drop_at, take-append-le, length-take}
+use Rattle.std.proofs.lemmas.List.{append-nil, take_at, drop_at}
 use Rattle.tab_codec.specs.declared.frames.Frame.{Frame}
-use Rattle.tab_codec.specs.declared.frames.Frame.TheVariants as frames
 use Rattle.tab_codec.specs.Spelling.{spelling}
 use Rattle.tab_codec.specs.Frames.{HasSpelling}
 use Rattle.tab_codec.specs.Reading.{frame_at}
-use Rattle.tab_journal.specs.Told.{map_after, names_after}
-use Rattle.tab_journal.specs.Fitting.{told_first, told_by, takes, after, after_all, takes_all, is_whole_store, Fits}
+use Rattle.tab_journal.specs.Fitting.{takes, after, after_all, takes_all}
 use Rattle.tab_journal.specs.declared.fitting.Told.{Told}
-use Rattle.tab_journal.specs.declared.fitting.Told.TheVariants as told
-use Rattle.tab_journal.specs.Areas.{stamp, header, opened, front, ShutAt, AreFrames, IsOpen, IsClosed, IsOlder, IsUnder}
-use Rattle.tab_journal.specs.Stores.{gates_from}
+use Rattle.tab_journal.specs.Areas.{stamp, header, opened, front, IsOpen, IsClosed, IsOlder}
 
 -- that reading gives back what was spelled, whatever follows
 abbrev pub ReadsBack : Type 0

@@ -1,5 +1,5 @@
 -- How the images of one disk go on from device call to device call, and what an append's four calls add.
-use Rattle.std.proofs.Common.{◌≡◌, ℕ, ◌+◌, ◌≤◌, Result, Ok, Err, OnOk, List, [], ◌∷◌, ◌++◌, length, drop, inl, inr, refl, sym, ap, subst, ◌∙◌, arith, append_assoc, length-append}
+use Rattle.std.proofs.Common.{◌≡◌, ℕ, ◌+◌, Result, Ok, Err, OnOk, List, [], ◌∷◌, ◌++◌, length, drop, inl, inr, sym, ap, subst, ◌∙◌, arith, append_assoc, length-append}
 use Rattle.std.specs.Prelude.{◌≢◌, ◌⊎◌}
 use Rattle.tab_outside.specs.Disks.{Watch, Rests, Wrote, Elapses, Torn, LeavesOnly, CountsNow, overwritten}
 use Rattle.tab_outside.specs.Pairs.{AddsNone}

@@ -1,16 +1,16 @@
 -- What a store's disks say of what is held in memory, after a step and after a reading.
-use Rattle.std.proofs.Common.{◌≡◌, ℕ, ◌≤◌, Bool, true, false, cond, Option, Some, None, List, [], ◌∷◌, ◌++◌, refl, sym, ap, subst, ◌∙◌, inl, inr, arith}
+use Rattle.std.proofs.Common.{◌≡◌, ℕ, Bool, true, false, cond, Option, Some, None, List, refl, sym, subst, inl, inr}
 use Rattle.std.specs.Prelude.{◌⊎◌}
 use Rattle.tab_outside.specs.Disks.{Watch, CountsNow, OnlyNow}
 use Rattle.tab_outside.specs.Pairs.{Tells, Now, Extends, AddsNone}
 use Rattle.tab_outside.proofs.Moments.{now_goes_on, now_weaker, extends_weaker, extends_none}
 use Rattle.tab_codec.specs.declared.frames.Frame.{Frame}
-use Rattle.tab_journal.specs.Areas.{ShutAt, IsOpen, IsUnder, Spells}
+use Rattle.tab_journal.specs.Areas.{ShutAt, Spells}
 use Rattle.tab_journal.specs.Stores.{StoreView, area_a, area_b, HasFrames}
-use Rattle.tab_journal.specs.Keeping.{Sense, IfDoubt, Means, Runs}
+use Rattle.tab_journal.specs.Keeping.{Sense, Means, Runs}
 use Rattle.tab_journal.proofs.Fronts.{ReadsBack}
 use Rattle.tab_journal.proofs.Compacting.{under_spare, flipped}
-use Rattle.tab_journal.proofs.PairLaws.{one_spelled, none_spelled}
+use Rattle.tab_journal.proofs.PairLaws.{one_spelled}
 
 -- ---- what the images of a store that runs spell
 

@@ -1,14 +1,14 @@
 -- A store that is made, frame by frame.
-use Rattle.std.proofs.Common.{◌≡◌, ℕ, ◌+◌, ◌<◌, ◌≤◌, ◌^◌, Bool, true, false, None, List, [], ◌∷◌, ◌++◌, length, take, get_or, refl, sym, ap, subst, ◌∙◌, arith, append_assoc, length-append}
+use Rattle.std.proofs.Common.{◌≡◌, ℕ, ◌+◌, ◌<◌, ◌≤◌, ◌^◌, true, false, None, List, [], ◌∷◌, ◌++◌, length, take, get_or, refl, sym, ap, subst, ◌∙◌, arith, append_assoc, length-append}
 use Rattle.std.specs.List.{AllByRecursion}
 use Rattle.tab_outside.specs.Disks.{Watch, ReadsImage}
 use Rattle.tab_codec.specs.declared.frames.Frame.{Frame}
 use Rattle.tab_codec.specs.Spelling.{spelling}
 use Rattle.tab_codec.specs.Frames.{HasSpelling}
-use Rattle.tab_journal.specs.Areas.{header, front, opened, AreFrames, IsClosed}
+use Rattle.tab_journal.specs.Areas.{header, front, opened, IsClosed}
 use Rattle.tab_journal.specs.Fitting.{takes_all, told_first, told_by, is_whole_store}
 use Rattle.tab_journal.specs.Steps.{EachNow, IsShutOn, IsBuilt}
-use Rattle.tab_journal.specs.Stores.{StoreView, HasFrames}
+use Rattle.tab_journal.specs.Stores.{HasFrames}
 use Rattle.tab_journal.specs.Making.{IsMade}
 use Rattle.tab_journal.proofs.Fronts.{opened_more, all_more}
 use Rattle.tab_journal.proofs.Compacting.{begun, no_pieces, front_size, first_size, spare_closed}

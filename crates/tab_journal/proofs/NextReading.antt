@@ -1,12 +1,11 @@
 -- Reading an area frame by frame: what was read so far, and what is read behind it.
-use Rattle.std.proofs.Common.{◌≡◌, ℕ, zero, suc, ◌+◌, ◌-◌, ◌<◌, ◌≤◌, Bool, true, false, cond, Result, Ok, Err, List, [], ◌∷◌, ◌++◌, length, take, drop, get_or, refl, sym, ap, subst, ◌∙◌, arith, append_assoc, length-append}
+use Rattle.std.proofs.Common.{◌≡◌, ℕ, suc, ◌+◌, ◌-◌, ◌<◌, ◌≤◌, true, false, cond, Result, Ok, Err, List, [], ◌∷◌, ◌++◌, length, drop, get_or, refl, sym, ap, subst, ◌∙◌, arith, append_assoc, length-append}
 use Rattle.std.specs.Prelude.{◌==◌}
-use Rattle.std.proofs.lemmas.Bool.Decides.{nat_tests}
 use Rattle.std.proofs.lemmas.List.{append-nil, length-drop, drop-drop, drop_all, drop_more}
 use Rattle.tab_codec.specs.declared.frames.Frame.{Frame}
 use Rattle.tab_codec.specs.Spelling.{spelling}
 use Rattle.tab_codec.specs.Reading.{frame_at}
-use Rattle.tab_journal.specs.Fitting.{told_first, takes, after, is_whole_store}
+use Rattle.tab_journal.specs.Fitting.{told_first, takes, is_whole_store}
 use Rattle.tab_journal.specs.declared.fitting.Told.{Told}
 use Rattle.tab_journal.specs.Areas.{opened, first_gate}
 use Rattle.tab_journal.specs.Reading.{frames_from, frames_of, behind_gate, followed_by}

@@ -1,9 +1,9 @@
 -- What was read of an area is what it holds: its header, that it is closed, its frames.
-use Rattle.std.proofs.Common.{◌≡◌, ℕ, zero, suc, ◌+◌, ◌-◌, ◌<◌, ◌≤◌, ◌^◌, Bool, true, false, cond, inl, inr, Result, Ok, Err, List, [], ◌∷◌, ◌++◌, length, take, drop, get_or, refl, sym, ap, subst, ◌∙◌, arith, append_assoc, length-append, take-append-drop}
-use Rattle.std.specs.Prelude.{◌≢◌, ◌⊎◌, ◌==◌, nat_lt, min}
+use Rattle.std.proofs.Common.{◌≡◌, ℕ, suc, ◌+◌, ◌<◌, ◌≤◌, ◌^◌, Bool, true, false, cond, inl, inr, Result, Ok, Err, List, [], ◌∷◌, ◌++◌, length, take, drop, refl, sym, ap, subst, ◌∙◌, arith, append_assoc}
+use Rattle.std.specs.Prelude.{◌⊎◌, ◌==◌, nat_lt, min}
 use Rattle.std.specs.Int.{w64, to_be_bytes, from_be_bytes}
 use Rattle.std.proofs.lemmas.Bool.Decides.{nat_tests}
-use Rattle.std.proofs.lemmas.List.{drop_at, length-drop, length-take}
+use Rattle.std.proofs.lemmas.List.{drop_at, length-drop}
 use Rattle.tab_codec.specs.declared.frames.Frame.{Frame}
 use Rattle.tab_codec.specs.Frames.{AreBytes}
 use Rattle.tab_codec.proofs.FrontLaws.{chosen}
@@ -11,7 +11,7 @@ use Rattle.tab_codec.proofs.FieldLaws.{field64, drop_bytes, rest_bytes}
 use Rattle.tab_codec.specs.Reading.{number_at}
 use Rattle.std.proofs.lemmas.Bool.{ltb-true, ltb-false, le-ltb}
 use Rattle.tab_journal.specs.Fitting.{told_first}
-use Rattle.tab_journal.specs.Areas.{stamp, header, opened, front, first_gate, ShutAt, IsOpen, IsClosed, IsOlder, IsUnder, Spells}
+use Rattle.tab_journal.specs.Areas.{stamp, header, opened, front, first_gate, IsOpen, IsClosed, IsUnder, Spells}
 use Rattle.tab_journal.specs.Reading.{agreeing, header_of, front_of, frames_of, Found, found, found_in, not_before, read_areas}
 use Rattle.tab_journal.specs.declared.reading.Front.{Front}
 use Rattle.tab_journal.specs.declared.reading.Front.TheVariants.{Empty, Closed, NoHeader, Open}

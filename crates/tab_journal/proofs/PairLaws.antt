@@ -1,20 +1,19 @@
 -- What is read of two areas is what they spell, and what they spell is read.
-use Rattle.std.proofs.Common.{◌≡◌, ℕ, zero, suc, ◌+◌, ◌-◌, ◌<◌, ◌≤◌, ◌^◌, Bool, true, false, cond, inl, inr, Result, Ok, Err, List, [], ◌∷◌, ◌++◌, length, take, drop, get_or, refl, sym, ap, subst, ◌∙◌, arith, append_assoc, length-append, take-append-drop}
-use Rattle.std.specs.Prelude.{◌≢◌, ◌⊎◌, ◌==◌, nat_lt}
+use Rattle.std.proofs.Common.{◌≡◌, ℕ, suc, ◌<◌, ◌≤◌, ◌^◌, Bool, true, false, inl, inr, Result, Ok, Err, List, [], ◌∷◌, ◌++◌, length, drop, refl, sym, ap, ◌∙◌, arith, append_assoc, length-append}
+use Rattle.std.specs.Prelude.{◌==◌, nat_lt}
 use Rattle.std.specs.Int.{w64, to_be_bytes, from_be_bytes}
 use Rattle.std.proofs.lemmas.Bool.Decides.{nat_tests}
-use Rattle.std.proofs.lemmas.List.{drop_at, length-drop}
+use Rattle.std.proofs.lemmas.List.{length-drop}
 use Rattle.std.proofs.lemmas.Nat.{from_be_bytes-to_be_bytes_8}
 use Rattle.tab_codec.specs.declared.frames.Frame.{Frame}
-use Rattle.tab_codec.specs.Frames.{AreBytes}
 use Rattle.std.proofs.lemmas.Bool.{true≢false}
 use Rattle.tab_journal.specs.Fitting.{told_first, told_by, after, after_all, is_whole_store}
 use Rattle.tab_journal.specs.declared.fitting.Told.{Told}
 use Rattle.tab_journal.specs.declared.fitting.Told.TheVariants as told
-use Rattle.tab_journal.specs.Areas.{stamp, header, opened, front, first_gate, ShutAt, AreFrames, IsOpen, IsClosed, IsOlder, IsUnder, Keeps, Spells}
-use Rattle.tab_journal.specs.Reading.{agreeing, header_of, front_of, frames_of, frames_from, Found, found, found_in, not_before, read_areas}
+use Rattle.tab_journal.specs.Areas.{stamp, header, opened, first_gate, AreFrames, IsOpen, IsClosed, IsOlder, IsUnder, Spells}
+use Rattle.tab_journal.specs.Reading.{agreeing, header_of, front_of, frames_of, frames_from, Found, found, read_areas}
 use Rattle.tab_journal.specs.declared.reading.Front.{Front}
-use Rattle.tab_journal.specs.declared.reading.Front.TheVariants.{Empty, Closed, NoHeader, Open}
+use Rattle.tab_journal.specs.declared.reading.Front.TheVariants.{Closed, Open}
 use Rattle.tab_journal.proofs.Fronts.{ReadsBack, epoch_bytes, has_header, opened_behind}
 use Rattle.tab_journal.proofs.ReadingLaws.{opened_read, not_open}
 

@@ -1,12 +1,12 @@
 -- What is read of an area is what it spells, and all that it spells is read.
-use Rattle.std.proofs.Common.{◌≡◌, ℕ, zero, suc, ◌+◌, ◌<◌, ◌≤◌, ◌^◌, Bool, true, false, cond, ◌&&◌, inl, inr, Result, Ok, Err, List, [], ◌∷◌, ◌++◌, length, take, drop, refl, sym, ap, subst, ◌∙◌, arith, append_assoc, length-append}
-use Rattle.std.specs.Prelude.{◌≢◌, ◌⊎◌, ◌==◌}
+use Rattle.std.proofs.Common.{◌≡◌, ℕ, zero, suc, ◌+◌, ◌<◌, Bool, true, false, cond, inl, inr, Result, Ok, Err, List, [], ◌∷◌, ◌++◌, length, drop, refl, sym, ap, subst, ◌∙◌, arith, append_assoc, length-append}
+use Rattle.std.specs.Prelude.{◌≢◌, ◌==◌}
 use Rattle.std.specs.List.{AllByRecursion}
 use Rattle.std.proofs.lemmas.Bool.Decides.{nat_tests}
 use Rattle.std.proofs.lemmas.List.{drop_at}
 use Rattle.tab_codec.specs.declared.frames.Frame.{Frame}
 use Rattle.tab_codec.specs.Spelling.{spelling}
-use Rattle.tab_codec.specs.Frames.{AreBytes, HasSpelling, BeginsWith}
+use Rattle.tab_codec.specs.Frames.{AreBytes, HasSpelling}
 use Rattle.tab_codec.specs.Reading.{frame_at}
 use Rattle.tab_codec.proofs.FrontLaws.{chosen}
 use Rattle.tab_codec.proofs.FieldLaws.{drop_bytes, rest_bytes}

@@ -1,19 +1,19 @@
 -- What an append leaves of a store that runs.
-use Rattle.std.proofs.Common.{◌≡◌, ℕ, ◌+◌, ◌<◌, ◌≤◌, ◌^◌, Bool, true, false, cond, Option, Some, None, List, [], ◌∷◌, ◌++◌, length, take, refl, sym, ap, subst, ◌∙◌, inl, inr, arith, append_assoc, length-append}
-use Rattle.std.specs.Prelude.{◌⊎◌, min}
+use Rattle.std.proofs.Common.{◌≡◌, ℕ, ◌+◌, ◌<◌, ◌≤◌, ◌^◌, true, cond, Some, None, List, [], ◌∷◌, ◌++◌, length, take, refl, sym, ap, subst, ◌∙◌, inl, inr, arith, length-append}
+use Rattle.std.specs.Prelude.{◌⊎◌}
 use Rattle.std.proofs.lemmas.List.{take-append-le, length-take}
-use Rattle.tab_outside.specs.Disks.{Watch, CountsNow, ReadsImage, LeavesOnly}
+use Rattle.tab_outside.specs.Disks.{Watch, CountsNow, ReadsImage}
 use Rattle.tab_outside.specs.Pairs.{Extends, AddsNone}
 use Rattle.tab_codec.specs.declared.frames.Frame.{Frame}
 use Rattle.tab_codec.specs.declared.frames.Frame.TheVariants as frames
 use Rattle.tab_codec.specs.Spelling.{spelling}
 use Rattle.tab_codec.specs.Frames.{HasSpelling}
 use Rattle.tab_journal.specs.Told.{MapTold, NamesTold, map_after, names_after}
-use Rattle.tab_journal.specs.Fitting.{told_first, told_by, after, after_all, is_whole_store, Fits}
+use Rattle.tab_journal.specs.Fitting.{told_first, told_by, after, is_whole_store, Fits}
 use Rattle.tab_journal.specs.declared.fitting.Told.{Told}
 use Rattle.tab_journal.specs.declared.fitting.Told.TheVariants as told
 use Rattle.tab_journal.specs.Areas.{first_gate, front, opened, ShutAt, AreFrames, IsOpen, Spells}
-use Rattle.tab_journal.specs.Steps.{EachNow, Adds, IsShutOn, MayAppend, IsEitherShut}
+use Rattle.tab_journal.specs.Steps.{Adds, IsShutOn, MayAppend, IsEitherShut}
 use Rattle.tab_journal.specs.Stores.{StoreView, area_a, area_b, gates_from, HasFrames}
 use Rattle.tab_journal.proofs.Images.{adds_weaker}
 use Rattle.tab_journal.proofs.Fronts.{ReadsBack, front_more, all_more, after_more, takes_more}

@@ -1,8 +1,8 @@
 -- What is known of something kept between two calls, and what its calls answer.
-use Rattle.std.proofs.Common.{◌≡◌, ℕ, zero, suc, ◌-◌, ◌^◌, ◌≤◌, Bool, true, false, cond, Option, Some, None, Result, Ok, Err, List, [], ◌∷◌, ◌++◌, refl, sym, ap, subst, ◌∙◌, inl, inr, arith}
+use Rattle.std.proofs.Common.{◌≡◌, ℕ, zero, suc, ◌-◌, ◌≤◌, Bool, true, false, Option, Some, None, Result, Ok, Err, List, [], ◌∷◌, ◌++◌, refl, sym, ap, subst, ◌∙◌, inl, inr, arith}
 use Rattle.std.specs.Prelude.{◌⊎◌}
 use Rattle.tab_outside.specs.Disks.{Watch, Rests, CountsNow, OnlyNow, ReadsImage}
-use Rattle.tab_outside.specs.Pairs.{Tells, Now, Since, AddsNone}
+use Rattle.tab_outside.specs.Pairs.{Now, Since, AddsNone}
 use Rattle.tab_outside.proofs.Moments.{rests_adds_none, tells_weaker, now_weaker, since_weaker, since_begins}
 use Rattle.tab_codec.specs.declared.frames.Frame.{Frame}
 use Rattle.tab_journal.specs.Areas.{Spells}

@@ -1,5 +1,5 @@
 -- Which frame fits those before it in a store of some kind.
-use Rattle.std.specs.Prelude.{◌≡◌, ℕ, List, [], ◌∷◌, Bool, true, false, ◌&&◌, ◌==◌, Option, Some, None, if◌then◌else◌}
+use Rattle.std.specs.Prelude.{◌≡◌, ℕ, List, [], ◌∷◌, Bool, true, false, ◌&&◌, ◌==◌, None, if◌then◌else◌}
 use Rattle.tab_codec.specs.declared.frames.Frame.{Frame}
 use Rattle.tab_journal.specs.Told.{server_takes, server_after, map_takes, map_after, names_takes, names_after}
 use Rattle.tab_journal.specs.declared.fitting.Told.{Told}

@@ -1,5 +1,5 @@
 -- What a store's two disks say of what is held in memory, with one step in doubt at most.
-use Rattle.std.specs.Prelude.{◌≡◌, ℕ, ◌⊎◌, List, [], ◌∷◌, ◌++◌, Bool, false, true, Option, Some, None, Result, Ok, Err}
+use Rattle.std.specs.Prelude.{◌≡◌, ℕ, ◌⊎◌, List, [], ◌∷◌, ◌++◌, Bool, false, true, Option, Some, None}
 use Rattle.tab_outside.specs.Disks.{Watch}
 use Rattle.tab_outside.specs.Pairs.{Now}
 use Rattle.tab_codec.specs.declared.frames.Frame.{Frame}

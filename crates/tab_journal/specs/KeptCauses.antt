@@ -1,5 +1,5 @@
 -- What a call on something kept leaves, by its answer, and where its refusals come from.
-use Rattle.std.specs.Prelude.{◌≡◌, ℕ, ◌-◌, ◌^◌, ◌≤◌, ◌⊎◌, Bool, false, true, Option, Some, None, Result, Ok, Err}
+use Rattle.std.specs.Prelude.{◌≡◌, ℕ, ◌-◌, ◌^◌, ◌≤◌, ◌⊎◌, Bool, false, true, Some, None, Result, Ok, Err}
 use Rattle.tab_outside.specs.Faults.{Rose}
 use Rattle.tab_journal.specs.Stores.{area_a, area_b}
 use Rattle.tab_journal.specs.Keeping.{Sense, KeptView, IsSettled}

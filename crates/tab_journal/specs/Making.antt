@@ -10,8 +10,7 @@ use Rattle.tab_journal.specs.Steps.{IsShutOn}
 use Rattle.tab_journal.specs.Reading.{Found}
 use Rattle.tab_journal.specs.Stores.{StoreView, current_area}
 use Rattle.tab_journal.specs.declared.refusals.Back.{Back}
-use Rattle.tab_journal.specs.declared.refusals.StoreRefused.{StoreRefused}
-use Rattle.tab_journal.specs.declared.refusals.StoreRefused.TheVariants.{DiskFault, NotAStore, EpochSpent, Memory}
+use Rattle.tab_journal.specs.declared.refusals.StoreRefused.TheVariants.{DiskFault, NotAStore, EpochSpent}
 
 -- the disks are back: no count fell, and a disk fault comes only where the count of its disk rose
 pub record IsRefusedFor {D : Type 0} (faults : D → ℕ) (a b : D) (back : Back D) : Type 0 where

@@ -1,5 +1,5 @@
 -- Reading one frame of an area behind those before it.
-use Rattle.std.specs.Prelude.{◌≡◌, ℕ, ◌+◌, List, ◌∷◌, ◌++◌, length, true, Result, Ok, Err}
+use Rattle.std.specs.Prelude.{◌≡◌, ℕ, List, true, Result, Ok, Err}
 use Rattle.tab_codec.specs.declared.frames.Frame.{Frame}
 use Rattle.tab_codec.specs.Frames.{BeginsWith}
 use Rattle.tab_codec.specs.Reading.{frame_at}

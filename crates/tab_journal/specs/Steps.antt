@@ -1,5 +1,5 @@
 -- What a call does to one disk: which images of a crash it adds.
-use Rattle.std.specs.Prelude.{◌≡◌, ◌≢◌, ℕ, ◌+◌, ◌<◌, ◌≤◌, ◌^◌, ◌⊎◌, List, [], ◌∷◌, ◌++◌, length}
+use Rattle.std.specs.Prelude.{◌≡◌, ℕ, ◌+◌, ◌<◌, ◌≤◌, ◌^◌, ◌⊎◌, List, [], ◌∷◌, ◌++◌, length}
 use Rattle.tab_outside.specs.Disks.{Watch, LeavesOnly}
 use Rattle.tab_journal.specs.Areas.{ShutAt, IsClosed}
 

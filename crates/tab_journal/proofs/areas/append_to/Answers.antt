@@ -1,6 +1,6 @@
-use Rattle.std.proofs.Common.{◌≡◌, ◌+◌, ◌++◌, ◌∷◌, inl, ap, sym, ◌∙◌, arith}
+use Rattle.std.proofs.Common.{◌≡◌, ◌+◌, ◌++◌, ◌∷◌, inl, arith}
 use Rattle.tab_journal.specs.Steps.{IsEitherShut}
-use Rattle.tab_journal.proofs.Images.{on_ok, adds_then, adds_now, adds_rests, each_rests, first_images, first_written, second_images, second_written, staged_same, shut_same}
+use Rattle.tab_journal.proofs.Images.{on_ok, adds_then, adds_now, adds_rests, first_images, first_written, second_images, second_written, staged_same, shut_same}
 use Rattle.tab_journal.proofs.areas.append_to.Goals as goal
 
 pub returns-in_err-write_at-clause-images : goal.returns-in_err-write_at-clause-images

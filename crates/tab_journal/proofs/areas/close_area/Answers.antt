@@ -1,7 +1,6 @@
-use Rattle.std.proofs.Common.{◌∷◌, ◌∙◌, drop}
-use Rattle.tab_journal.specs.Areas.{IsClosed}
+use Rattle.std.proofs.Common.{◌∷◌, ◌∙◌}
 use Rattle.tab_journal.specs.Steps.{IsClosedOr}
-use Rattle.tab_journal.proofs.Images.{on_ok, adds_then, adds_now, adds_rests, each_only}
+use Rattle.tab_journal.proofs.Images.{on_ok, adds_then, adds_now, adds_rests}
 use Rattle.tab_journal.proofs.Building.{closing_images, closed_done, zero_closed}
 use Rattle.tab_journal.proofs.areas.close_area.Goals as goal
 

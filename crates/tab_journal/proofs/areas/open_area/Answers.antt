@@ -1,7 +1,6 @@
 use Rattle.std.proofs.Common.{◌∷◌, [], inl, arith, refl}
-use Rattle.tab_journal.specs.Areas.{IsClosed}
 use Rattle.tab_journal.specs.Steps.{IsEitherShut}
-use Rattle.tab_journal.proofs.Images.{on_ok, adds_then, adds_now, adds_rests, each_rests, second_images, second_written, staged_same, shut_same}
+use Rattle.tab_journal.proofs.Images.{on_ok, adds_then, adds_now, adds_rests, second_images, second_written, staged_same, shut_same}
 use Rattle.tab_journal.proofs.Building.{closed_wrote, built_staged}
 use Rattle.tab_journal.proofs.areas.open_area.Goals as goal
 

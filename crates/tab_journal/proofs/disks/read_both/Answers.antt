@@ -1,6 +1,4 @@
-use Rattle.std.proofs.Common.{◌≡◌, ℕ, Err, inl, inr, arith}
-use Rattle.tab_journal.specs.declared.refusals.StoreRefused.{StoreRefused}
-use Rattle.tab_journal.specs.declared.refusals.StoreRefused.TheVariants.{DiskFault}
+use Rattle.std.proofs.Common.{inl, inr, arith}
 use Rattle.tab_journal.proofs.Causes.{same_refusal, rose_before, is_err_of}
 use Rattle.tab_journal.proofs.disks.read_both.Goals as goal
 

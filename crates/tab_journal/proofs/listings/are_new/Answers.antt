@@ -1,8 +1,7 @@
-use Rattle.std.proofs.Common.{◌≡◌, ℕ, true, false, cond, List, sym, ap, ◌∙◌}
+use Rattle.std.proofs.Common.{ℕ, true, cond, List, sym, ap, ◌∙◌}
 use Rattle.std.specs.BTreeSet.{contains}
 use Rattle.std.specs.Ordering.{is_eq}
 use Rattle.tab_keys.specs.Order.{name_cmp}
-use Rattle.tab_journal.specs.Told.{is_taken}
 use Rattle.tab_journal.proofs.Names.{added_so, not_added_so, listed_none, listed_more, listed_all, has_more}
 use Rattle.tab_journal.proofs.listings.are_new.Goals as goal
 

@@ -1,4 +1,4 @@
-use Rattle.std.proofs.Common.{◌≡◌, ◌++◌, take}
+use Rattle.std.proofs.Common.{◌≡◌, take}
 use Rattle.std.specs.Prelude.{vec_items}
 use Rattle.tab_journal.specs.Told.{rows_of}
 use Rattle.tab_journal.proofs.maps.rows_of.Given as goal

@@ -1,4 +1,4 @@
-use Rattle.std.proofs.Common.{◌≡◌, true, false, Err, refl, sym, ap, subst, ◌∙◌, inl}
+use Rattle.std.proofs.Common.{◌≡◌, false, Err, sym, ap, subst, ◌∙◌, inl}
 use Rattle.tab_outside.specs.Pairs.{Since}
 use Rattle.tab_journal.specs.Areas.{AreFrames, Spells}
 use Rattle.tab_journal.specs.Stores.{area_a, area_b}

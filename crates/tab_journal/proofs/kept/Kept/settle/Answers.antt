@@ -1,5 +1,4 @@
-use Rattle.std.proofs.Common.{◌≡◌, true, false, None, Some, Err, List, refl, sym, subst, ◌∙◌}
-use Rattle.tab_codec.specs.declared.frames.Frame.{Frame}
+use Rattle.std.proofs.Common.{◌≡◌, true, refl, sym, subst, ◌∙◌}
 use Rattle.tab_codec.proofs.FrameLaws.{frame_again}
 use Rattle.tab_journal.specs.Reading.{read_areas}
 use Rattle.tab_journal.specs.Stores.{area_a, area_b}

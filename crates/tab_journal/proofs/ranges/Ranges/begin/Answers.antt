@@ -1,4 +1,4 @@
-use Rattle.std.proofs.Common.{◌≡◌, not, List, sym, ◌∙◌, rules}
+use Rattle.std.proofs.Common.{◌≡◌, not, rules}
 use Rattle.std.specs.Prelude.{◌==◌}
 use Rattle.std.proofs.lemmas.Fn.{filter_same}
 use Rattle.tab_journal.specs.declared.ranges.RangeTold.{RangeTold}

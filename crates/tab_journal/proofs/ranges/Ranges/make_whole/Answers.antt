@@ -1,4 +1,4 @@
-use Rattle.std.proofs.Common.{◌≡◌, true, sym, ◌∙◌}
+use Rattle.std.proofs.Common.{true}
 use Rattle.tab_journal.specs.declared.ranges.RangeTold.{RangeTold}
 use Rattle.tab_journal.proofs.Begun.{changed_here}
 use Rattle.tab_journal.proofs.ranges.Ranges.make_whole.Goals as goal

@@ -1,4 +1,4 @@
-use Rattle.std.proofs.Common.{◌≡◌, map}
+use Rattle.std.proofs.Common.{map}
 use Rattle.std.specs.List.{last_or}
 use Rattle.tab_rows.specs.Rows.{RowView}
 use Rattle.tab_journal.specs.declared.ranges.RangeTold.{RangeTold}

@@ -1,11 +1,10 @@
-use Rattle.std.proofs.Common.{◌≡◌, ◌+◌, ◌<◌, ◌^◌, ℕ, List, [], ◌∷◌, ◌++◌, length, cond, sym, ap, subst, arith, length-append}
+use Rattle.std.proofs.Common.{◌≡◌, ◌+◌, [], ◌∷◌, ◌++◌, length, cond, sym, ap, subst, arith, length-append}
 use Rattle.tab_outside.specs.Pairs.{Extends}
-use Rattle.tab_codec.specs.declared.frames.Frame.{Frame}
 use Rattle.tab_codec.specs.Spelling.{spelling}
 use Rattle.tab_codec.proofs.FrameLaws.{frame_again}
-use Rattle.tab_journal.specs.Areas.{front, Spells}
+use Rattle.tab_journal.specs.Areas.{Spells}
 use Rattle.tab_journal.specs.Fitting.{Fits}
-use Rattle.tab_journal.specs.Stores.{StoreView, area_a, area_b, HasFrames}
+use Rattle.tab_journal.specs.Stores.{area_a, area_b, HasFrames}
 use Rattle.tab_journal.proofs.Running.{may_append, appended, append_extends}
 use Rattle.tab_journal.proofs.store.Store.append.Goals as goal
 

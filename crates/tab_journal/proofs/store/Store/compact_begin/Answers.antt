@@ -1,7 +1,7 @@
-use Rattle.std.proofs.Common.{◌≡◌, ◌+◌, ◌<◌, ◌^◌, ℕ, List, [], true, false, Some, refl, sym, ap, subst, ◌∙◌, arith}
+use Rattle.std.proofs.Common.{◌≡◌, ◌+◌, [], true, false, Some, refl, sym, ap, subst, ◌∙◌, arith}
 use Rattle.tab_journal.specs.Areas.{IsClosed, header}
 use Rattle.tab_journal.specs.Steps.{EachNow, IsBuilt}
-use Rattle.tab_journal.specs.Stores.{StoreView, area_a, area_b, IsSpare, HasFrames, KeptSince}
+use Rattle.tab_journal.specs.Stores.{StoreView, area_a, area_b, HasFrames, KeptSince}
 use Rattle.tab_journal.proofs.Compacting.{kept_on, begun, begin_frames, begin_pieces, begin_kept, begin_has, closed_under}
 use Rattle.tab_journal.proofs.store.Store.compact_begin.Goals as goal
 

@@ -1,8 +1,7 @@
-use Rattle.std.proofs.Common.{◌≡◌, ◌+◌, ◌<◌, ◌≤◌, ◌^◌, ℕ, List, [], ◌∷◌, ◌++◌, length, true, false, not, cond, Some, refl, sym, ap, subst, ◌∙◌, arith}
+use Rattle.std.proofs.Common.{◌≡◌, ◌+◌, ◌++◌, length, not, cond, sym, ap, subst, ◌∙◌, arith}
 use Rattle.std.specs.Option.{unwrap_or}
 use Rattle.tab_journal.specs.Areas.{header, front, opened, AreFrames}
-use Rattle.tab_journal.specs.Steps.{IsShutOn}
-use Rattle.tab_journal.specs.Stores.{StoreView, area_a, area_b, HasFrames, HasPieces, KeptSince, SpellsEither}
+use Rattle.tab_journal.specs.Stores.{area_a, area_b, HasFrames, HasPieces, KeptSince, SpellsEither}
 use Rattle.tab_journal.proofs.Compacting.{front_size, ended_as, end_images, end_images_swapped}
 use Rattle.tab_journal.proofs.store.Store.compact_end.Goals as goal
 

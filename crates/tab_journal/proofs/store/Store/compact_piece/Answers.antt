@@ -1,9 +1,7 @@
-use Rattle.std.proofs.Common.{◌≡◌, ◌+◌, ◌<◌, ◌≤◌, ◌^◌, ℕ, List, [], ◌∷◌, ◌++◌, length, true, false, Some, refl, sym, ap, subst, ◌∙◌, arith}
+use Rattle.std.proofs.Common.{◌≡◌, ◌+◌, ◌++◌, length, true, Some, sym, ap, subst, ◌∙◌, arith}
 use Rattle.std.specs.Option.{unwrap_or}
-use Rattle.tab_codec.specs.Spelling.{spelling}
-use Rattle.tab_journal.specs.Areas.{IsClosed, header, front, opened}
-use Rattle.tab_journal.specs.Steps.{EachNow, IsBuilt}
-use Rattle.tab_journal.specs.Stores.{StoreView, area_a, area_b, HasFrames, HasPieces, KeptSince}
+use Rattle.tab_journal.specs.Areas.{header, front, opened}
+use Rattle.tab_journal.specs.Stores.{HasFrames, HasPieces, KeptSince}
 use Rattle.tab_journal.proofs.Compacting.{kept_on, begin_frames, more_pieces, closed_under, front_size}
 use Rattle.tab_journal.proofs.store.Store.compact_piece.Goals as goal
 

@@ -1,4 +1,4 @@
-use Rattle.std.proofs.Common.{◌≡◌, ◌<◌, ◌≤◌, ℕ, length, ap, sym, ◌∙◌, arith}
+use Rattle.std.proofs.Common.{length, ap, ◌∙◌, arith}
 use Rattle.tab_journal.specs.Stores.{StoreView}
 use Rattle.tab_journal.proofs.Adopting.{front_end}
 use Rattle.tab_journal.proofs.Gates.{known_gates}
