@@ -90,7 +90,7 @@ pub fn key_text(alloc: Global, fields: &[String], at: usize) -> Result<KeyText, 
 }
 
 /// The key text of a text, which has to be one.
-pub fn text_of_key(alloc: Global, text: &str) -> Result<KeyText, Stop> {
+fn text_of_key(alloc: Global, text: &str) -> Result<KeyText, Stop> {
     match KeyText::new(alloc, text) {
         Ok(key) => Ok(key),
         Err(_) => Err(Stop::Unread("a key text is wanted")),

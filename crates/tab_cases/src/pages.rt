@@ -4,9 +4,8 @@ ghost use Rattle.std.specs.Prelude.{◌≡◌, ◌<◌, [], IfOk};
 ghost use Rattle.tab_keys.specs.declared.bounds.Bound.TheVariants.{At, End};
 
 use crate::answers::{Answer, field, unknown};
-use crate::keys::text_of_key;
 use crate::rows::{key_in, place, row};
-use crate::stops::Stop;
+use crate::stops::{NO_MEMORY, Stop};
 use std::alloc::Global;
 use std::marker::Brand;
 use std::sync::ledger::{Blank, Ledger};
@@ -66,8 +65,10 @@ fn page_of(alloc: Global, rows: &Rows, options: &Options) -> Answer {
 fn first_bound(alloc: Global) -> Result<Bound, Stop>
     ensures { IfOk result (λ bound. bound ≡ At 0 []) }
 {
-    let first = text_of_key(alloc, "")?;
-    Ok(Bound::At(0, first))
+    match KeyText::new(alloc, "") {
+        Ok(first) => Ok(Bound::At(0, first)),
+        Err(_) => Err(NO_MEMORY),
+    }
 }
 
 /// All keys.
