@@ -32,12 +32,7 @@ fn made(
     body: &str,
 ) -> Result<Result<Entity, EdmRefused>, Stop> {
     match read_entity(alloc, body.as_bytes()) {
-        Ok(body) => Ok(Entity::new(
-            alloc,
-            pk_units,
-            rk_units,
-            body.properties.into_vec(),
-        )),
+        Ok(body) => Ok(Entity::new(alloc, pk_units, rk_units, body.properties.into_vec())),
         Err(JsonRefused::Memory) => Err(NO_MEMORY),
         Err(_) => Err(Stop::Unread("the body of an entity is wanted")),
     }
