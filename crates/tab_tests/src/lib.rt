@@ -17,6 +17,4 @@ mod readings;
 #[cfg(test)]
 mod seats;
 #[cfg(test)]
-mod stores;
-#[cfg(test)]
 mod texts;
