@@ -1,11 +1,15 @@
 //! Laws of groups and of merges, each the contract of a function that does nothing.
-ghost use Rattle.std.specs.Prelude.{◌≡◌, ℕ, Option, List, ◌∷◌, All, IsFalse, None, Some, Ok, Err, IsOk, IsUtf8, slice_get};
+ghost use Rattle.std.specs.Prelude.{◌≡◌, ℕ, Option, List, ◌∷◌, map, All, IsTrue, IsFalse, None, Some, Ok, Err, IsOk, IsUtf8, slice_get};
 ghost use Rattle.tab_keys.specs.Order.{same_key};
+ghost use Rattle.tab_keys.specs.Spans.{Interval, has};
 ghost use Rattle.tab_keys.specs.declared.keys.Key.{Key};
 ghost use Rattle.tab_edm.specs.Entities.{EntityView, IsRising};
 ghost use Rattle.tab_rows.specs.Rows.{RowView, AreRising, row_at};
-ghost use Rattle.tab_ops.specs.Groups.{ItemView, AreApart, group_refusal};
-ghost use Rattle.tab_ops.specs.Changes.{group_outcome, group_keys, merge_outcome};
+ghost use Rattle.tab_rows.specs.Spans.{rows_in, rows_beside};
+ghost use Rattle.tab_rows.specs.declared.changes.Change.{Change};
+ghost use Rattle.tab_ops.specs.Groups.{ItemView, AreApart, item_key, group_refusal};
+ghost use Rattle.tab_ops.specs.Changes.{group_outcome, group_keys, merge_outcome, applied, change_key};
+ghost use Rattle.tab_ops.specs.Spans.{outcome_in};
 ghost use Rattle.tab_ops.specs.Laws.{IsKeptOrPut, SawRowsBefore, IsRefusedByItem, MakesMerge, IsPastLimits};
 ghost use Rattle.tab_ops.specs.declared.groups.OpRefused.{OpRefused};
 
@@ -53,6 +57,39 @@ pub fn items_see_the_rows_before_their_group()
 pub fn groups_act_in_one_partition()
     ensures { (first : ItemView) (items : List ItemView) → group_refusal (first ∷ items) ≡ None
         → All (λ item. item.pk ≡ first.pk) items }
+{}
+
+/// A span that has one key of a group has all of them, and one that lacks one has none.
+pub fn groups_lie_in_one_span()
+    ensures inside { (span : Interval) (table : ℕ) (first : ItemView) (items : List ItemView) → group_refusal (first ∷ items) ≡ None
+        → IsTrue (has span (item_key table first)) → All (λ key. IsTrue (has span key)) (group_keys table (first ∷ items)) }
+    ensures outside { (span : Interval) (table : ℕ) (first : ItemView) (items : List ItemView) → group_refusal (first ∷ items) ≡ None
+        → IsFalse (has span (item_key table first)) → All (λ key. IsFalse (has span key)) (group_keys table (first ∷ items)) }
+{}
+
+/// A group whose keys lie in a span comes to on the span's rows what it comes to on all rows, and changes no row beside the
+/// span. One none of whose keys lie in a span changes none of its rows.
+pub fn groups_act_on_a_span_as_on_all()
+    ensures inside { (span : Interval) (rows : List RowView) (table tick : ℕ) (group : List ItemView)
+        → All (λ key. IsTrue (has span key)) (group_keys table group)
+        → group_outcome (rows_in span rows) table tick group ≡ outcome_in span (group_outcome rows table tick group) }
+    ensures beside { (span : Interval) (rows after : List RowView) (table tick : ℕ) (group : List ItemView) → AreRising rows
+        → All (λ key. IsTrue (has span key)) (group_keys table group)
+        → group_outcome rows table tick group ≡ Ok after → rows_beside span after ≡ rows_beside span rows }
+    ensures elsewhere { (span : Interval) (rows after : List RowView) (table tick : ℕ) (group : List ItemView) → AreRising rows
+        → All (λ key. IsFalse (has span key)) (group_keys table group)
+        → group_outcome rows table tick group ≡ Ok after → rows_in span after ≡ rows_in span rows }
+{}
+
+/// Changes whose keys lie in a span make of the span's rows what they make of them among all rows, and changes none of whose
+/// keys do leave them. Rows in rising order are so after changes.
+pub fn changes_act_on_a_span_as_on_all()
+    ensures inside { (span : Interval) (rows : List RowView) (changes : List Change)
+        → All (λ key. IsTrue (has span key)) (map change_key changes)
+        → applied (rows_in span rows) changes ≡ rows_in span (applied rows changes) }
+    ensures elsewhere { (span : Interval) (rows : List RowView) (changes : List Change) → AreRising rows
+        → All (λ key. IsFalse (has span key)) (map change_key changes) → rows_in span (applied rows changes) ≡ rows_in span rows }
+    ensures rising { (rows : List RowView) (changes : List Change) → AreRising rows → AreRising (applied rows changes) }
 {}
 
 /// No two operations of a group have one row key, and so no two of its keys are one.

@@ -11,9 +11,10 @@ mod plans;
 
 pub use groups::{Group, GroupRefused, OpRefused};
 pub use laws::{
-    groups_act_in_one_partition, groups_are_judged_without_their_tick,
-    groups_are_refused_by_an_item, groups_give_their_keys_one_tick, groups_have_rows_of_their_own,
-    groups_keep_order, groups_leave_other_keys, items_see_the_rows_before_their_group,
+    changes_act_on_a_span_as_on_all, groups_act_in_one_partition, groups_act_on_a_span_as_on_all,
+    groups_are_judged_without_their_tick, groups_are_refused_by_an_item,
+    groups_give_their_keys_one_tick, groups_have_rows_of_their_own, groups_keep_order,
+    groups_leave_other_keys, groups_lie_in_one_span, items_see_the_rows_before_their_group,
     merges_are_refused_past_limits, merges_give_values_by_name,
 };
 pub use ops::{Item, Match, Op};

@@ -1,3 +1,4 @@
 pub mod Lists
 pub mod RowLaws
 mod IndexLemmas
+pub mod SpanLaws

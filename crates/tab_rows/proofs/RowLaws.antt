@@ -176,7 +176,7 @@ apart_from_or a b h = by_test (key_lt a b) refl
     by_test true e = apart_below a b e
     by_test false e = apart_above a b (ap (λ t. t || key_lt b a) (sym e) ∙ h)
 
-or_from_apart : (a b : Key) → same_key a b ≡ false → (key_lt a b || key_lt b a) ≡ true
+pub or_from_apart : (a b : Key) → same_key a b ≡ false → (key_lt a b || key_lt b a) ≡ true
 or_from_apart a b h = by_test (key_lt a b) (key_lt b a) refl refl
   where
     by_test : (t u : Bool) → key_lt a b ≡ t → key_lt b a ≡ u → (key_lt a b || key_lt b a) ≡ true
@@ -227,7 +227,7 @@ without_row-absent rows key none =
     filter_all (λ row. key_lt row.key key || key_lt key row.key) rows
     (All-weaker (λ row. same_key row.key key ≡ false) (λ row. (key_lt row.key key || key_lt key row.key) ≡ true) (λ row h. or_from_apart row.key key h) rows (All-from_find_none (λ row. same_key row.key key) rows none))
 
-above_iff : (a b : Key) → same_key a b ≡ false → key_lt b a ≡ not (key_lt a b)
+pub above_iff : (a b : Key) → same_key a b ≡ false → key_lt b a ≡ not (key_lt a b)
 above_iff a b h = by_test (key_lt a b) refl
   where
     by_test : (t : Bool) → key_lt a b ≡ t → key_lt b a ≡ not (key_lt a b)

@@ -4,12 +4,14 @@
 
 mod changes;
 mod cursors;
+mod laws;
 mod row;
 mod rows;
 mod steps;
 
 pub use changes::Change;
 pub use cursors::Cursor;
+pub use laws::reads_of_a_span_are_reads_of_all;
 pub use row::Row;
 pub use rows::Rows;
 pub use steps::Steps;
