@@ -11,3 +11,4 @@ pub mod RisingLists
 pub mod OnePageLaws
 pub mod PageCounts
 pub mod ContinuationLaws
+pub mod SpanLaws

@@ -41,6 +41,14 @@ single (value ∷ other ∷ more) = Err BadOption
 unfoldable pub option_at : List ℕ → List ℕ → Result (Option (List ℕ)) OptionRefused
 option_at name query = single (values name (raw_pairs query))
 
+abbrev pub first_of : List (List ℕ) → Option (List ℕ)
+first_of [] = None
+first_of (value ∷ later) = Some value
+
+-- the first value of an option that may stand more than once
+unfoldable pub first_at : List ℕ → List ℕ → Option (List ℕ)
+first_at name query = first_of (values name (raw_pairs query))
+
 -- ---- how many rows
 
 abbrev pub is_digit : ℕ → Bool

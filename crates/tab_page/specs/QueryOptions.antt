@@ -7,7 +7,7 @@ use Rattle.tab_page.specs.declared.queries.OptionRefused.TheVariants.{BadOption}
 use Rattle.tab_page.specs.declared.query_options.OptionSeen.{OptionSeen}
 use Rattle.tab_page.specs.declared.query_options.OptionSeen.TheVariants.{Absent, Once, Doubled}
 use Rattle.tab_page.specs.declared.query_options.QueryOptions.{QueryOptions}
-use Rattle.tab_page.specs.Queries.{decoded, option_at}
+use Rattle.tab_page.specs.Queries.{decoded, option_at, first_at}
 
 -- a value that is not decoded yet
 abbrev pub text_of : Option (Bor (List ℕ)) → Option (List ℕ)
@@ -29,6 +29,11 @@ once_more value (Err why) = Err why
 abbrev pub seen : List ℕ → List ℕ → List ℕ → Result (Option (List ℕ)) OptionRefused → Result (Option (List ℕ)) OptionRefused
 seen word name value given = if bytes_eq name word then once_more value given else given
 
+-- a pair may be the first of this option
+abbrev pub first_seen : List ℕ → List ℕ → List ℕ → Option (List ℕ) → Option (List ℕ)
+first_seen word name value (Some first) = Some first
+first_seen word name value None = if bytes_eq name word then Some value else None
+
 -- the known options
 pub record QueryOptionsView : Type 0 where
   pub filter : Result (Option (List ℕ)) OptionRefused
@@ -36,6 +41,8 @@ pub record QueryOptionsView : Type 0 where
   pub top : Result (Option (List ℕ)) OptionRefused
   pub partition : Result (Option (List ℕ)) OptionRefused
   pub row : Result (Option (List ℕ)) OptionRefused
+  pub table : Result (Option (List ℕ)) OptionRefused
+  pub comp : Option (List ℕ)
 
 abbrev pub options_view : QueryOptions → QueryOptionsView
 options_view known = record {
@@ -44,10 +51,12 @@ options_view known = record {
   top = seen_view known.top;
   partition = seen_view known.partition;
   row = seen_view known.row;
+  table = seen_view known.table;
+  comp = text_of known.comp;
 }
 
 abbrev pub no_options : QueryOptionsView
-no_options = record { filter = Ok None; select = Ok None; top = Ok None; partition = Ok None; row = Ok None }
+no_options = record { filter = Ok None; select = Ok None; top = Ok None; partition = Ok None; row = Ok None; table = Ok None; comp = None }
 
 -- with one more pair
 abbrev pub with_pair : QueryOptionsView → List ℕ → List ℕ → QueryOptionsView
@@ -57,6 +66,8 @@ with_pair known name value = record {
   top = seen (codes "$top") name value known.top;
   partition = seen (codes "NextPartitionKey") name value known.partition;
   row = seen (codes "NextRowKey") name value known.row;
+  table = seen (codes "NextTableName") name value known.table;
+  comp = first_seen (codes "comp") name value known.comp;
 }
 
 -- with these pairs
@@ -72,4 +83,6 @@ options_in query = record {
   top = option_at (codes "$top") query;
   partition = option_at (codes "NextPartitionKey") query;
   row = option_at (codes "NextRowKey") query;
+  table = option_at (codes "NextTableName") query;
+  comp = first_at (codes "comp") query;
 }

@@ -10,11 +10,13 @@ mod query_options;
 mod selects;
 mod tokens;
 
-pub use laws::{queries_go_on_where_tokens_say, tokens_are_handed_back};
+pub use laws::{
+    pages_of_a_span_are_pages_of_all, queries_go_on_where_tokens_say, tokens_are_handed_back,
+};
 pub use page_rule::{page, page_prefix, start_key};
 pub use pages::{Options, Page, PageRows};
-pub use queries::{OptionRefused, read_top, top_is_a_decimal};
-pub use query_options::values_of;
+pub use queries::{OptionRefused, token_of, top_is_a_decimal, top_of};
+pub use query_options::{OptionSeen, QueryOptions};
 pub use selects::{Names, Select};
 pub use tokens::{Token, TokenRefused, tokens_have_one_spelling};
 

@@ -7,8 +7,7 @@ ghost use Rattle.tab_page.specs.Queries.{read_options, read_select, decoded, rea
 ghost use Rattle.tab_page.specs.QueryOptions.{text_of};
 ghost use Rattle.tab_page.specs.declared.TheConstants.{MOST_ROWS};
 
-use crate::query_options::options_in;
-use crate::{MOST_ROWS, Options, Select, Token, TokenRefused};
+use crate::{MOST_ROWS, Options, QueryOptions, Select, Token, TokenRefused};
 use form_urlencoded::decode;
 use std::alloc::Global;
 use std::borrow::CowStr;
@@ -36,7 +35,7 @@ impl Options {
     pub fn read(alloc: Global, query: &str) -> Result<Options, OptionRefused>
         ensures { Gives OptionRefused.Memory (λ options. options) result (read_options query.now) }
     {
-        let Ok(known) = options_in(alloc, query.as_bytes()) else {
+        let Ok(known) = QueryOptions::read(alloc, query) else {
             return Err(OptionRefused::Memory);
         };
         let filter = known.filter.value()?;
@@ -54,7 +53,7 @@ impl Select {
     pub fn read(alloc: Global, query: &str) -> Result<Select, OptionRefused>
         ensures { Gives OptionRefused.Memory (λ select. select) result (read_select query.now) }
     {
-        let Ok(known) = options_in(alloc, query.as_bytes()) else {
+        let Ok(known) = QueryOptions::read(alloc, query) else {
             return Err(OptionRefused::Memory);
         };
         select_of(alloc, known.select.value()?)
@@ -93,7 +92,8 @@ fn text(alloc: Global, value: &[u8]) -> Result<CowStr<'_>, OptionRefused>
     decode(alloc, value).map_err(|_| OptionRefused::Memory)
 }
 
-fn top_of(alloc: Global, top: Option<&[u8]>) -> Result<u16, OptionRefused>
+/// How many rows, or tables, there may be, by the value of `$top`.
+pub fn top_of(alloc: Global, top: Option<&[u8]>) -> Result<u16, OptionRefused>
     ensures { Gives OptionRefused.Memory (λ most. most) result (top_of (text_of top.entry)) }
 {
     let Some(top) = top else {
@@ -105,8 +105,8 @@ fn top_of(alloc: Global, top: Option<&[u8]>) -> Result<u16, OptionRefused>
     }
 }
 
-/// How many a `$top` asks for: a decimal from 1 to 1,000. Lists of tables read it alike.
-pub fn read_top(text: &[u8]) -> Option<u16>
+/// How many a `$top` asks for: a decimal from 1 to 1,000.
+fn read_top(text: &[u8]) -> Option<u16>
     ensures { result ≡ read_top text.now }
 {
     match text {
@@ -164,7 +164,8 @@ fn row_of(alloc: Global, row: Option<&[u8]>) -> Result<KeyText, OptionRefused>
     }
 }
 
-fn token_of(alloc: Global, token: &[u8]) -> Result<KeyText, OptionRefused>
+/// The key, or the name of a table, that the value of an option has the token of.
+pub fn token_of(alloc: Global, token: &[u8]) -> Result<KeyText, OptionRefused>
     ensures { Gives OptionRefused.Memory (λ key. key) result (token_of (decoded token.now)) }
 {
     match Token::read(alloc, text(alloc, token)?.as_str()) {

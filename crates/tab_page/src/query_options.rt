@@ -1,17 +1,15 @@
-//! The pairs of a query, gone through once: how often each known option stands there, and the values of any one word. A pair is
-//! decoded as `application/x-www-form-urlencoded` (the URL Standard, section 5.1).
-ghost use Rattle.std.specs.Prelude.{◌≡◌, [], ◌∷◌, ◌++◌, IfOk, OnOk, MatchResult, Ok, Err, if◌then◌else◌, bytes_eq};
-ghost use Rattle.form_urlencoded.specs.Form.{raw_pairs};
-ghost use Rattle.tab_page.specs.Queries.{decoded, values};
-ghost use Rattle.tab_page.specs.QueryOptions.{text_of, seen_view, seen, options_view, no_options, with_pair, options_in};
+//! The options of a query, all of them read in one pass over its pairs, which are decoded as
+//! `application/x-www-form-urlencoded` (the URL Standard, section 5.1).
+ghost use Rattle.std.specs.Prelude.{◌≡◌, IfOk, MatchResult, Ok, Err};
+ghost use Rattle.tab_page.specs.Queries.{decoded};
+ghost use Rattle.tab_page.specs.QueryOptions.{text_of, seen_view, seen, first_seen, options_view, no_options, with_pair, options_in};
 
 use crate::OptionRefused;
 use form_urlencoded::{decode, raw_pairs};
 use std::alloc::Global;
-use tab_edm::TextValue;
 use tab_keys::Memory;
 
-/// How often an option stands in a query, and its value as it stands there.
+/// How often an option stands in a query, and its value, which is not decoded yet.
 #[derive(Clone, Copy)]
 pub enum OptionSeen<'a> {
     Absent,
@@ -47,17 +45,37 @@ impl<'a> OptionSeen<'a> {
     }
 }
 
-/// The options that are known.
+/// What a query says of each option that has a name here.
 #[derive(Clone, Copy)]
 pub struct QueryOptions<'a> {
+    /// `$filter`.
     pub filter: OptionSeen<'a>,
+    /// `$select`.
     pub select: OptionSeen<'a>,
+    /// `$top`.
     pub top: OptionSeen<'a>,
+    /// `NextPartitionKey`.
     pub partition: OptionSeen<'a>,
+    /// `NextRowKey`.
     pub row: OptionSeen<'a>,
+    /// `NextTableName`.
+    pub table: OptionSeen<'a>,
+    /// The first value of `comp`, which is signed and may stand twice; it is not decoded yet.
+    pub comp: Option<&'a [u8]>,
 }
 
 impl<'a> QueryOptions<'a> {
+    /// The options of a query.
+    pub fn read(alloc: Global, query: &'a str) -> Result<QueryOptions<'a>, Memory>
+        ensures { IfOk result (λ known. options_view known ≡ options_in query.entry.now) }
+    {
+        let mut known = QueryOptions::nothing();
+        for (name, value) in raw_pairs(query.as_bytes()) {
+            known = known.with_pair(alloc, name, value)?;
+        }
+        Ok(known)
+    }
+
     fn nothing() -> QueryOptions<'a>
         ensures { options_view result ≡ no_options }
     {
@@ -67,18 +85,8 @@ impl<'a> QueryOptions<'a> {
             top: OptionSeen::Absent,
             partition: OptionSeen::Absent,
             row: OptionSeen::Absent,
-        }
-    }
-
-    fn with(self, name: &str, value: &'a [u8]) -> QueryOptions<'a>
-        ensures { options_view result ≡ with_pair (options_view self.entry) name.now (decoded value.entry.now) }
-    {
-        QueryOptions {
-            filter: self.filter.with("$filter", name, value),
-            select: self.select.with("$select", name, value),
-            top: self.top.with("$top", name, value),
-            partition: self.partition.with("NextPartitionKey", name, value),
-            row: self.row.with("NextRowKey", name, value),
+            table: OptionSeen::Absent,
+            comp: None,
         }
     }
 
@@ -96,49 +104,33 @@ impl<'a> QueryOptions<'a> {
             Err(_) => Err(Memory),
         }
     }
-}
 
-/// The known options of a query.
-pub fn options_in(alloc: Global, query: &[u8]) -> Result<QueryOptions<'_>, Memory>
-    ensures { IfOk result (λ known. options_view known ≡ options_in query.now) }
-{
-    let mut known = QueryOptions::nothing();
-    for (name, value) in raw_pairs(query) {
-        known = known.with_pair(alloc, name, value)?;
+    fn with(self, name: &str, value: &'a [u8]) -> QueryOptions<'a>
+        ensures { options_view result ≡ with_pair (options_view self.entry) name.now (decoded value.entry.now) }
+    {
+        QueryOptions {
+            filter: self.filter.with("$filter", name, value),
+            select: self.select.with("$select", name, value),
+            top: self.top.with("$top", name, value),
+            partition: self.partition.with("NextPartitionKey", name, value),
+            row: self.row.with("NextRowKey", name, value),
+            table: self.table.with("NextTableName", name, value),
+            comp: first_seen(self.comp, "comp", name, value),
+        }
     }
-    Ok(known)
 }
 
-/// The values that a query gives for a word, decoded, in their order. Only those of the word are copied.
-pub fn values_of(alloc: Global, word: &str, query: &str) -> Result<Vec<TextValue>, Memory>
-    ensures { IfOk result (λ found. found.items ≡ values word.now (raw_pairs query.now)) }
-{
-    let mut found = Vec::new(alloc);
-    for (name, value) in raw_pairs(query.as_bytes()) {
-        add_value(alloc, &mut found, word, name, value)?;
-    }
-    Ok(found)
-}
-
-/// Adds the value of a pair that is named by the word.
-fn add_value(
-    alloc: Global,
-    found: &mut Vec<TextValue>,
+/// The first value of an option, where a pair may be of the option with this word.
+fn first_seen<'a>(
+    first: Option<&'a [u8]>,
     word: &str,
-    name: &[u8],
-    value: &[u8],
-) -> Result<(), Memory>
-    ensures { OnOk result (found.new.items ≡ found.old.items ++ values word.now ((name.now, value.now) ∷ [])) }
+    name: &str,
+    value: &'a [u8],
+) -> Option<&'a [u8]>
+    ensures { text_of result ≡ first_seen word.now name.now (decoded value.entry.now) (text_of first.entry) }
 {
-    let Ok(name) = decode(alloc, name) else {
-        return Err(Memory);
-    };
-    if name.as_str() != word {
-        return Ok(());
+    match first {
+        None if name == word => Some(value),
+        _ => first,
     }
-    let Ok(value) = decode(alloc, value) else {
-        return Err(Memory);
-    };
-    found.push(TextValue::new(String::from_str(alloc, value.as_str())?))?;
-    Ok(())
 }
