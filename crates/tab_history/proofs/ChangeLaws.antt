@@ -33,7 +33,7 @@ pub insert_refused : (rows : List RowView) (table tick : ℕ) (item : ItemView) 
 insert_refused rows table tick item entity row op some = rw (op, some) refl
 
 -- the greater of two numbers is the one or the other
-ahead_of : (floors : Floors) (next now : ℕ) → (next ≡ 0) ⊎ ((key : Key) × (next ≤ floor_of floors key)) → (next < now) ⊎ (now ≤ next)
+pub ahead_of : (floors : Floors) (next now : ℕ) → (next ≡ 0) ⊎ ((key : Key) × (next ≤ floor_of floors key)) → (next < now) ⊎ (now ≤ next)
     → (max now next ≤ now) ⊎ ((key : Key) × (max now next ≤ floor_of floors key))
 ahead_of floors next now reached (inl below) = inl (omega arith)
 ahead_of floors next now (inl none) (inr above) = inl (omega arith)

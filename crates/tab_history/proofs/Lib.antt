@@ -9,6 +9,8 @@ pub mod TickLaws
 pub mod StillLaws
 pub mod ExampleLaws
 pub mod WorldLaws
+pub mod ConfigurationLaws
+pub mod RangeLaws
 pub mod NumberLaws
 pub mod TablesExampleLaws
 pub mod DoubtsExampleLaws

@@ -11,3 +11,5 @@ pub mod Configurations
 pub mod SplitExample
 pub mod Kept
 pub mod Histories
+pub mod Tilings
+pub mod Ranges

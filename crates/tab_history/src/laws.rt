@@ -1,17 +1,29 @@
 //! What legal histories give: laws over the definitions alone.
-ghost use Rattle.std.specs.Prelude.{◌≡◌, List, ◌∷◌, ◌++◌, [], Some, None};
-ghost use Rattle.tab_history.specs.World.{IsWorld};
-ghost use Rattle.tab_history.specs.Legality.{State, Legal, after_all};
+ghost use Rattle.std.specs.Prelude.{◌≡◌, ◌≢◌, ℕ, ◌+◌, ◌≤◌, max, List, ◌∷◌, ◌++◌, [], Some, None, All, Contains, IsTrue};
+ghost use Rattle.std.specs.Result.{result_unwrap_or};
+ghost use Rattle.tab_keys.specs.Spans.{Interval, has};
+ghost use Rattle.tab_keys.specs.declared.keys.Key.{Key};
+ghost use Rattle.tab_edm.specs.declared.TheConstants.{GREATEST};
+ghost use Rattle.tab_rows.specs.Rows.{AreRising};
+ghost use Rattle.tab_rows.specs.Spans.{rows_in};
+ghost use Rattle.tab_ops.specs.Groups.{ItemView, group_refusal};
+ghost use Rattle.tab_ops.specs.Changes.{group_outcome, group_keys};
+ghost use Rattle.tab_page.specs.Pages.{end_above};
+ghost use Rattle.tab_history.specs.World.{IsWorld, World, Floors, MayHaveTick, floor_of};
+ghost use Rattle.tab_history.specs.Legality.{State, Legal, AreBounds, acted, after_all};
 ghost use Rattle.tab_history.specs.Kept.{HasTablesBelow};
 ghost use Rattle.tab_history.specs.Followed.{FollowedWell, FollowedStill, IsFollowed, entries_of, rows_of};
 ghost use Rattle.tab_history.specs.Example.{opening, query, row_of};
 ghost use Rattle.tab_history.specs.Ticks.{TicksRise, TicksTellRows};
 ghost use Rattle.tab_history.specs.TablesExample.{dogs, nothing, making, listing, filling, dropping, making_again, left, row_of_p};
 ghost use Rattle.tab_history.specs.Numbers.{NumbersRise, MadeNew, DropsHide};
-ghost use Rattle.tab_history.specs.Doubts.{AreOpen};
+ghost use Rattle.tab_history.specs.Doubts.{AreOpen, Accepts};
 ghost use Rattle.tab_history.specs.DoubtsExample.{commit_in_doubt, commit_that_stood, query_over_doubts, insert_that_did_not_stand, table_left_open};
-ghost use Rattle.tab_history.specs.Configurations.{bounds_of, next_tick_at, config_after_all};
+ghost use Rattle.tab_history.specs.Configurations.{MapRow, Configuration, row_with, bounds_of, next_tick_of, next_tick_at, ticked, config_after_all};
+ghost use Rattle.tab_history.specs.Tilings.{TileKeys, HasOneRow};
+ghost use Rattle.tab_history.specs.Ranges.{routed, HaveOwnRanges, IsHeldAs, AreAlikeIn, IsNextTickIn, TicksServe};
 ghost use Rattle.tab_history.specs.SplitExample.{whole_range, before_split, reopening};
+ghost use Rattle.tab_history.specs.declared.entries.Doubt.{Doubt};
 ghost use Rattle.tab_history.specs.declared.entries.Entry.{Entry};
 ghost use Rattle.tab_keys.specs.declared.bounds.Bound.TheVariants.{At};
 ghost use Rattle.tab_history.specs.declared.entries.Doubt.TheVariants as doubt;
@@ -103,4 +115,46 @@ pub fn a_range_that_is_split()
     ensures ticks { next_tick_at (config_after_all before_split opening (commit_in_doubt ++ commit_that_stood)) (row_of 100 7).key ≡ 8 }
     ensures plans { (config_after_all before_split opening (commit_in_doubt ++ commit_that_stood ++ reopening)).plans ≡ [] }
     ensures numbers { (config_after_all before_split opening (commit_in_doubt ++ commit_that_stood ++ reopening)).next_range ≡ 4 }
+{}
+
+/// Where the spans of a map's rows tile the space of keys, exactly one row has each key, its span ends at the least of the
+/// rows' bounds above the key, and these bounds are such as an opening tells.
+pub fn rows_tile_the_keys()
+    ensures one { (rows : List MapRow) (key : Key) → TileKeys rows → HasOneRow rows key }
+    ensures end { (rows : List MapRow) (key : Key) (row : MapRow) → TileKeys rows → row_with rows key ≡ Some row
+        → end_above key (bounds_of rows) ≡ row.span.hi }
+    ensures bounds { (rows : List MapRow) → TileKeys rows → AreBounds (bounds_of rows) }
+{}
+
+/// A change makes of the range that it is routed to what its group makes of that range's rows, and its next tick is past the
+/// change's; it leaves the rows and the next tick of each other range. A range that is alike in two worlds stays so behind an
+/// operation that both accept, as one of which it is open whether it stands.
+pub fn changes_stay_in_their_range()
+    ensures here { (world : World) (config : Configuration) (row : MapRow) (table tick : ℕ) (group : List ItemView)
+        → group_refusal group ≡ None → routed config.rows (group_keys table group) ≡ Some row
+        → IsHeldAs (acted world (doubt.Change table group tick)) (ticked config (Some (doubt.Change table group tick))) row
+        (result_unwrap_or (group_outcome (rows_in row.span world.rows) table tick group) (rows_in row.span world.rows))
+        (max (tick + 1) (next_tick_of config.next_ticks row.range)) }
+    ensures there { (world : World) (config : Configuration) (row other : MapRow) (table tick : ℕ) (group : List ItemView)
+        → TileKeys config.rows → AreRising world.rows
+        → group_refusal group ≡ None → routed config.rows (group_keys table group) ≡ Some row
+        → Contains config.rows other → other.range ≢ row.range
+        → IsHeldAs (acted world (doubt.Change table group tick)) (ticked config (Some (doubt.Change table group tick))) other
+        (rows_in other.span world.rows) (next_tick_of config.next_ticks other.range) }
+    ensures alike { (row : MapRow) (world : World) (config : Configuration) (other : World) (other_config : Configuration) (operation : Doubt)
+        → AreAlikeIn row world config other other_config → config.rows ≡ other_config.rows → AreRising world.rows → AreRising other.rows
+        → Accepts world operation → Accepts other operation
+        → AreAlikeIn row (acted world operation) (ticked config (Some operation)) (acted other operation) (ticked other_config (Some operation)) }
+{}
+
+/// The later of the moment and a range's next tick may be the tick of a change there; behind a change whose tick is not below
+/// the floors of its keys the next tick of each range serves for its keys' floors as before.
+pub fn next_ticks_serve()
+    ensures may { (floors : Floors) (span : Interval) (next now : ℕ) (keys : List Key) → IsNextTickIn floors span next
+        → All (λ key. IsTrue (has span key)) keys → max now next ≤ GREATEST → MayHaveTick floors keys now (max now next) }
+    ensures kept { (world : World) (config : Configuration) (row : MapRow) (table tick : ℕ) (group : List ItemView)
+        → TileKeys config.rows → HaveOwnRanges config.rows → TicksServe world.floors config
+        → group_refusal group ≡ None → routed config.rows (group_keys table group) ≡ Some row
+        → All (λ key. floor_of world.floors key ≤ tick) (group_keys table group)
+        → TicksServe (acted world (doubt.Change table group tick)).floors (ticked config (Some (doubt.Change table group tick))) }
 {}
