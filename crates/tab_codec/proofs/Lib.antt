@@ -11,3 +11,4 @@ pub mod RowLaws
 pub mod MapLaws
 pub mod BodyLaws
 pub mod FrameLaws
+pub mod NumberSteps

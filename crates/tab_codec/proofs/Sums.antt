@@ -1,5 +1,7 @@
 -- What was counted or written of a list so far.
-use Rattle.std.proofs.Common.{◌≡◌, ℕ, ◌+◌, ◌*◌, ◌<◌, ◌≤◌, List, [], ◌∷◌, ◌++◌, length, get_or, take, drop, refl, sym, ap, subst, ◌∙◌, append_assoc, length-append, arith}
+use Rattle.std.proofs.Common.{◌≡◌, ℕ, ◌+◌, ◌*◌, ◌<◌, ◌≤◌, List, [], ◌∷◌, ◌++◌, length, get_or, take, drop, refl, sym, ap, subst, ◌∙◌, append_assoc, length-append, arith, cond, Result, Ok, Err, OnOk}
+use Rattle.std.specs.Result.{is_ok}
+use Rattle.tab_codec.specs.Spelling.{sized}
 use Rattle.std.specs.List.{flat_map, AllByRecursion}
 use Rattle.std.specs.Int.{w64, to_be_bytes}
 use Rattle.std.proofs.lemmas.List.{take_more, append-nil, take-append-drop}
@@ -39,3 +41,21 @@ in_three old a b c one two new h k l =
 pub in_four : (old a b c d one two three new : List ℕ) → one ≡ old ++ a → two ≡ one ++ b → three ≡ two ++ c → new ≡ three ++ d → new ≡ old ++ (a ++ (b ++ (c ++ d)))
 in_four old a b c d one two three new h k l m =
     in_three one b c d two three new k l m ∙ ap (λ (w : List ℕ). w ++ (b ++ (c ++ d))) h ∙ append_assoc old a (b ++ (c ++ d))
+
+pub in_two : (old a b one new : List ℕ) → one ≡ old ++ a → new ≡ one ++ b → new ≡ old ++ (a ++ b)
+in_two old a b one new h k = k ∙ ap (λ (w : List ℕ). w ++ b) h ∙ append_assoc old a b
+
+-- what was appended, where that went well
+pub appended : {E : Type 0} (r : Result (Unit {0}) E) (old other new : List ℕ) → new ≡ cond (is_ok r) (old ++ other) old → OnOk r (new ≡ old ++ other)
+appended (Ok x) old other new e = e
+appended (Err x) old other new e = tt
+
+-- a text that was written is the text that it is lent from
+pub of_text : (old s t u new : List ℕ) → s ≡ t → t ≡ u → new ≡ old ++ sized s → new ≡ old ++ sized u
+of_text old s t u new a b e = subst (λ (w : List ℕ). new ≡ old ++ sized w) (a ∙ b) e
+
+-- one item more was written
+pub put_more : {A : Type 0} (f : A → List ℕ) (xs : List A) (i : ℕ) (x : A) (old so_far new : List ℕ) → i < length xs → x ≡ get_or xs i x → so_far ≡ old ++ flat_map f (take i xs) → new ≡ so_far ++ f x
+    → new ≡ old ++ flat_map f (take (i + 1) xs)
+put_more f xs i x old so_far new lt is h k =
+    in_two old (flat_map f (take i xs)) (f x) so_far new h k ∙ ap (λ (w : List ℕ). old ++ w) (sym (spelled_more f xs i x lt is))

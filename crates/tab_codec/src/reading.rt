@@ -1,7 +1,8 @@
 //! Reads the frame at the front of bytes.
 
-ghost use Rattle.std.specs.Prelude.{◌≡◌, ◌≤◌, length};
+ghost use Rattle.std.specs.Prelude.{◌≡◌, ◌≤◌, ◌<◌, ◌-◌, ◌+◌, ◌^◌, ◌∷◌, length};
 ghost use Rattle.tab_codec.specs.Reading.{body_at, whole_body, frame_at};
+ghost use Rattle.tab_codec.specs.declared.reading.CodecRefused.TheVariants.{NoSpelling};
 ghost use Rattle.tab_codec.specs.Answers.{Answers, Tells};
 
 use crate::Frame;
@@ -37,18 +38,29 @@ pub fn read_frame(alloc: Global, bytes: &[u8]) -> Result<(Frame, usize), CodecRe
 fn read_front(alloc: Global, bytes: &[u8]) -> Result<(Frame, usize), CodecRefused>
     ensures { Answers result (frame_at bytes.now) }
 {
-    let [kind @ 1..=9, rest @ ..] = bytes else {
+    match bytes {
+        [kind, rest @ ..] => read_behind_kind(alloc, *kind, rest),
+        [] => Err(CodecRefused::NoSpelling { at: 0 }),
+    }
+}
+
+/// The frame of this kind, of which the bytes behind the kind are there.
+#[tactic(auto, unfolding(crate::specs::Reading::frame_at))]
+fn read_behind_kind(alloc: Global, kind: u8, bytes: &[u8]) -> Result<(Frame, usize), CodecRefused>
+    ensures { Answers result (frame_at (kind ∷ bytes.now)) }
+{
+    if kind < 1 || 9 < kind {
         return Err(CodecRefused::NoSpelling { at: 0 });
-    };
-    if rest.len() < 4 {
+    }
+    if bytes.len() < 4 {
         return Err(CodecRefused::NoSpelling { at: 1 });
     }
-    let (front, rest) = rest.split_at(4);
+    let (front, rest) = bytes.split_at(4);
     let size = u32::from_be_bytes([front[0], front[1], front[2], front[3]]) as usize;
     if size > MOST_BODY {
         return Err(CodecRefused::NoSpelling { at: 1 });
     }
-    read_whole_body(alloc, *kind, size, &rest[..size.min(rest.len())])
+    read_whole_body(alloc, kind, size, &rest[..size.min(rest.len())])
 }
 
 /// The frame whose body has this size, of which these bytes are there.
@@ -64,15 +76,23 @@ fn read_whole_body(
     requires bytes { length bytes.now ≤ size }
     ensures { Answers result (whole_body size bytes.now (body_at kind bytes.now)) }
 {
-    let (frame, left) = match read_body(alloc, kind, bytes) {
-        Ok((frame, rest)) => (Some(frame), rest.len()),
-        Err(Stop::Broken(left)) => (None, left),
+    let (frame, rest) = match read_body(alloc, kind, bytes) {
+        Ok(read) => read,
+        Err(Stop::Broken(left)) => return Err(no_spelling(bytes, left)),
         Err(Stop::Memory) => return Err(CodecRefused::Memory),
     };
-    match frame {
-        Some(frame) if left == 0 && bytes.len() == size => Ok((frame, HEAD + size)),
-        _ => Err(CodecRefused::NoSpelling {
-            at: HEAD + bytes.len().saturating_sub(left),
-        }),
+    let whole = rest.is_empty() && bytes.len() == size;
+    whole
+        .then_some((frame, HEAD + size))
+        .ok_or(no_spelling(bytes, rest.len()))
+}
+
+/// The refusal of the field of a body from which so many bytes are left.
+fn no_spelling(bytes: &[u8], left: usize) -> CodecRefused
+    requires { length bytes.now < 2 ^ 63 }
+    ensures { result ≡ NoSpelling (5 + (length bytes.now - left)) }
+{
+    CodecRefused::NoSpelling {
+        at: HEAD + bytes.len().saturating_sub(left),
     }
 }

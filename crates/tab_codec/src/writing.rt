@@ -177,7 +177,6 @@ fn put_name(out: &mut Vec<u8>, name: &(u64, TableName)) -> Result<(), AllocError
     put_sized(out, name.1.as_str().as_bytes())
 }
 
-#[tactic(auto, using(crate::proofs::Sums::spelled_more, crate::proofs::Sums::part_within))]
 fn put_properties(out: &mut Vec<u8>, properties: &[Property]) -> Result<(), AllocError>
     requires { IsShort (flat_map property_spelling properties.now) }
     ensures { OnOk result (out.new.items ≡ out.old.items ++ flat_map property_spelling properties.now) }
@@ -188,7 +187,6 @@ fn put_properties(out: &mut Vec<u8>, properties: &[Property]) -> Result<(), Allo
     Ok(())
 }
 
-#[tactic(auto, using(crate::proofs::Sums::spelled_more, crate::proofs::Sums::part_within, crate::proofs::Sums::all_more))]
 fn put_rows(out: &mut Vec<u8>, rows: &[Row]) -> Result<(), AllocError>
     requires { IsShort (flat_map row_spelling rows.now) }
     ensures bytes { OnOk result (out.new.items ≡ out.old.items ++ flat_map row_spelling rows.now) }
@@ -200,7 +198,6 @@ fn put_rows(out: &mut Vec<u8>, rows: &[Row]) -> Result<(), AllocError>
     Ok(())
 }
 
-#[tactic(auto, using(crate::proofs::Sums::spelled_more, crate::proofs::Sums::part_within, crate::proofs::Sums::all_more))]
 fn put_changes(out: &mut Vec<u8>, changes: &[Change]) -> Result<(), AllocError>
     requires { IsShort (flat_map change_spelling changes.now) }
     ensures bytes { OnOk result (out.new.items ≡ out.old.items ++ flat_map change_spelling changes.now) }
@@ -212,7 +209,6 @@ fn put_changes(out: &mut Vec<u8>, changes: &[Change]) -> Result<(), AllocError>
     Ok(())
 }
 
-#[tactic(auto, using(crate::proofs::Sums::spelled_more, crate::proofs::Sums::part_within, crate::proofs::Sums::all_more))]
 fn put_range_rows(out: &mut Vec<u8>, range_rows: &[RangeRow]) -> Result<(), AllocError>
     requires { IsShort (flat_map range_row_spelling range_rows.now) }
     ensures bytes { OnOk result (out.new.items ≡ out.old.items ++ flat_map range_row_spelling range_rows.now) }
@@ -224,7 +220,6 @@ fn put_range_rows(out: &mut Vec<u8>, range_rows: &[RangeRow]) -> Result<(), Allo
     Ok(())
 }
 
-#[tactic(auto, using(crate::proofs::Sums::spelled_more, crate::proofs::Sums::part_within, crate::proofs::Sums::all_more))]
 fn put_names(out: &mut Vec<u8>, names: &[(u64, TableName)]) -> Result<(), AllocError>
     requires { IsShort (flat_map name_spelling names.now) }
     ensures bytes { OnOk result (out.new.items ≡ out.old.items ++ flat_map name_spelling names.now) }
@@ -236,7 +231,6 @@ fn put_names(out: &mut Vec<u8>, names: &[(u64, TableName)]) -> Result<(), AllocE
     Ok(())
 }
 
-#[tactic(auto, using(crate::proofs::Sums::spelled_more, crate::proofs::Sums::part_within, crate::proofs::Sums::all_more))]
 fn put_numbers(out: &mut Vec<u8>, numbers: &[u64]) -> Result<(), AllocError>
     ensures bytes { OnOk result (out.new.items ≡ out.old.items ++ flat_map (to_be_bytes w64) numbers.now) }
     ensures parts { OnOk result (AllByRecursion (λ number. number < 2 ^ 64) numbers.now) }
@@ -248,7 +242,6 @@ fn put_numbers(out: &mut Vec<u8>, numbers: &[u64]) -> Result<(), AllocError>
 }
 
 /// The body of a frame.
-#[tactic(auto, unfolding(crate::specs::Spelling::body))]
 pub fn put_body(out: &mut Vec<u8>, frame: &Frame) -> Result<(), AllocError>
     requires short { IsShort (body frame.now) }
     requires orderly { IsOrderly frame.now }
