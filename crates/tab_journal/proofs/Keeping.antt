@@ -7,7 +7,7 @@ use Rattle.tab_outside.proofs.Moments.{now_goes_on, now_weaker, extends_weaker, 
 use Rattle.tab_codec.specs.declared.frames.Frame.{Frame}
 use Rattle.tab_journal.specs.Areas.{ShutAt, Spells}
 use Rattle.tab_journal.specs.Stores.{StoreView, area_a, area_b, HasFrames}
-use Rattle.tab_journal.specs.Keeping.{Sense, Means, Runs}
+use Rattle.tab_journal.specs.Keeping.{Sense, StandsFor, StandsWith, Means, Runs}
 use Rattle.tab_journal.proofs.Fronts.{ReadsBack}
 use Rattle.tab_journal.proofs.Compacting.{under_spare, flipped}
 use Rattle.tab_journal.proofs.PairLaws.{one_spelled}
@@ -38,30 +38,30 @@ pub running_now : {D C S : Type 0} (w : Watch D) (sense : Sense C S) (store : St
     → Now w (Spells store.kind store.number) (Means sense held doubt) (area_a store) (area_b store)
 running_now w sense store held doubt runs =
     now_weaker w (Spells store.kind store.number) (λ others. others ≡ runs.frames) (Means sense held doubt) (area_a store) (area_b store)
-    (λ frames same. inl (subst (λ (fs : List Frame). sense.stands fs held) (sym same) runs.stand)) (frames_now w store runs.frames runs.has)
+    (λ frames same. inl (subst (StandsFor sense held) (sym same) runs.stand)) (frames_now w store runs.frames runs.has)
 
 -- ---- after an append
 
 pub step_images : {D C S : Type 0} (w : Watch D) (sense : Sense C S) (kind number : ℕ) (a b a_new b_new : D) (held : C) (step : S) (gs : List Frame)
-    → sense.stands gs (sense.stepped held step) → Extends w (Spells kind number) (λ others. others ≡ gs) a b a_new b_new
-    → Extends w (Spells kind number) (λ others. sense.stands others (sense.stepped held step)) a b a_new b_new
+    → StandsWith sense held step gs → Extends w (Spells kind number) (λ others. others ≡ gs) a b a_new b_new
+    → Extends w (Spells kind number) (StandsWith sense held step) a b a_new b_new
 step_images w sense kind number a b a_new b_new held step gs stand extends =
-    extends_weaker w (Spells kind number) (λ others. others ≡ gs) (λ others. sense.stands others (sense.stepped held step)) a b a_new b_new
-    (λ others is. subst (λ (fs : List Frame). sense.stands fs (sense.stepped held step)) (sym is) stand) extends
+    extends_weaker w (Spells kind number) (λ others. others ≡ gs) (StandsWith sense held step) a b a_new b_new
+    (λ others is. subst (StandsWith sense held step) (sym is) stand) extends
 
-in_doubt : {C S : Type 0} (sense : Sense C S) (held : C) (step : S) (frames : List Frame) → Means sense held None frames ⊎ sense.stands frames (sense.stepped held step) → Means sense held (Some step) frames
+in_doubt : {C S : Type 0} (sense : Sense C S) (held : C) (step : S) (frames : List Frame) → Means sense held None frames ⊎ StandsWith sense held step frames → Means sense held (Some step) frames
 in_doubt sense held step frames (inl (inl stand)) = inl stand
 in_doubt sense held step frames (inl (inr none)) = absurd none
 in_doubt sense held step frames (inr stand) = inr stand
 
 -- after one that failed: what is held, with the step or without it
 pub failed_now : {D C S : Type 0} (w : Watch D) (sense : Sense C S) (kind number : ℕ) (a b a_new b_new : D) (held : C) (step : S) → CountsNow w → OnlyNow w
-    → Now w (Spells kind number) (Means sense held None) a b → Extends w (Spells kind number) (λ others. sense.stands others (sense.stepped held step)) a b a_new b_new
+    → Now w (Spells kind number) (Means sense held None) a b → Extends w (Spells kind number) (StandsWith sense held step) a b a_new b_new
     → Now w (Spells kind number) (Means sense held (Some step)) a_new b_new
 failed_now w sense kind number a b a_new b_new held step counts only now extends =
-    now_weaker w (Spells kind number) (λ fs. Means sense held None fs ⊎ sense.stands fs (sense.stepped held step)) (Means sense held (Some step)) a_new b_new
+    now_weaker w (Spells kind number) (λ fs. Means sense held None fs ⊎ StandsWith sense held step fs) (Means sense held (Some step)) a_new b_new
     (λ frames means. in_doubt sense held step frames means)
-    (now_goes_on w (Spells kind number) (Means sense held None) (λ others. sense.stands others (sense.stepped held step)) a b a_new b_new counts only extends now)
+    (now_goes_on w (Spells kind number) (Means sense held None) (StandsWith sense held step) a b a_new b_new counts only extends now)
 
 -- ---- after a reading
 

@@ -19,6 +19,5 @@ pub mod Causes
 pub mod Keeping
 pub mod Reopening
 pub mod Pieces
-pub mod Gates
 pub mod Settling
 pub mod Makes

@@ -9,7 +9,7 @@ use Rattle.tab_journal.specs.Areas.{Spells}
 use Rattle.tab_journal.specs.Fitting.{Fits}
 use Rattle.tab_journal.specs.Reading.{Found, read_areas}
 use Rattle.tab_journal.specs.Stores.{StoreView, area_a, area_b, area_of, IsSameStore, IsFaultOrSpent, StoreCauses, fails_by, Answers, HasFrames, SpellsEither}
-use Rattle.tab_journal.specs.Keeping.{Sense, GoesOn, IfDoubt, Means, Runs, KeptView, IsSound}
+use Rattle.tab_journal.specs.Keeping.{Sense, GoesOn, StandsFor, StandsWith, IfDoubt, Means, Runs, KeptView, IsSound, StandsStill}
 use Rattle.tab_journal.specs.KeptCauses.{passed_on, KeptCauses}
 use Rattle.tab_journal.specs.declared.refusals.StoreRefused.{StoreRefused}
 use Rattle.tab_journal.specs.declared.refusals.StoreRefused.TheVariants as store
@@ -22,9 +22,8 @@ use Rattle.tab_journal.proofs.Keeping.{frames_now, running_now, still_now}
 
 -- ---- soundness
 
-pub sound_running : {D C S : Type 0} (w : Watch D) (sense : Sense C S) (view : KeptView D C S) → view.store.kind ≡ sense.kind → (view.failed ≡ false → view.doubt ≡ None)
-    → Runs w sense view.store view.held → IsSound w sense view
-sound_running w sense view kind clear runs = record { kind = kind; now = running_now w sense view.store view.held view.doubt runs; runs = λ e. runs; clear = clear }
+pub sound_running : {D C S : Type 0} (w : Watch D) (sense : Sense C S) (view : KeptView D C S) → view.store.kind ≡ sense.kind → Runs w sense view.store view.held → IsSound w sense view
+sound_running w sense view kind runs = record { kind = kind; now = running_now w sense view.store view.held view.doubt runs; runs = λ e. runs }
 
 never_false : (b : Bool) → b ≡ true → b ≡ false → ⊥
 never_false b e f = let none : true ≡ false = sym e ∙ f in absurd (let no_way : ⊥ = cc in no_way)
@@ -35,7 +34,6 @@ sound_failed w sense view kind failed now = record {
   kind = kind;
   now = now;
   runs = λ e. absurd (never_false view.failed failed e);
-  clear = λ e. absurd (never_false view.failed failed e);
 }
 
 pub now_named : {D : Type 0} (w : Watch D) (P : List Frame → Type 0) (old new : StoreView D) → IsSameStore old new → Now w (Spells old.kind old.number) P (area_a new) (area_b new)
@@ -44,14 +42,28 @@ now_named w P old new same now =
     subst (λ (k : ℕ). Now w (Spells k new.number) P (area_a new) (area_b new)) (sym same.kind)
     (subst (λ (n : ℕ). Now w (Spells old.kind n) P (area_a new) (area_b new)) (sym same.number) now)
 
+-- frames that stood for what was held stand for what is held now
+means_still : {C S : Type 0} (sense : Sense C S) (old : C) (doubt : Option S) (new : C) → StandsStill sense old doubt new → (frames : List Frame) → Means sense old doubt frames → Means sense new doubt frames
+means_still sense old doubt new stands frames (inl stand) = inl (stands.still frames stand)
+means_still sense old doubt new stands frames (inr in_doubt) = inr (stands.in_doubt frames in_doubt)
+
+pub sound_still : {D C S : Type 0} (w : Watch D) (sense : Sense C S) (old : KeptView D C S) (held : C) → StandsStill sense old.held old.doubt held → IsSound w sense old → IsSound w sense (record old { held = held })
+sound_still w sense old held stands sound = record {
+  kind = sound.kind;
+  now = now_weaker w (Spells old.store.kind old.store.number) (Means sense old.held old.doubt) (Means sense held old.doubt) (area_a old.store) (area_b old.store) (means_still sense old.held old.doubt held stands) sound.now;
+  runs = λ e.
+      let r = sound.runs e in
+      record { frames = r.frames; has = r.has; stand = stands.still r.frames r.stand };
+}
+
 -- ---- a step
 
 pub steps_on : {C S : Type 0} (sense : Sense C S) (kind : ℕ) (held : C) (step : S) (list : List Frame) (frame : Frame) → GoesOn sense → kind ≡ sense.kind → frame ≡ sense.frame_of step
-    → sense.fits held step → sense.stands list held → Fits kind list frame × sense.stands (list ++ frame ∷ []) (sense.stepped held step)
+    → sense.fits (sense.tells held) step → StandsFor sense held list → Fits kind list frame × StandsWith sense held step (list ++ frame ∷ [])
 steps_on sense kind held step list frame goes is_kind is_frame fits stand =
-    let on = goes list held step fits stand in (
+    let on = goes list (sense.tells held) step fits stand in (
       subst (λ (k : ℕ). Fits k list frame) (sym is_kind) (subst (λ (f : Frame). Fits sense.kind list f) (sym is_frame) on.0),
-      subst (λ (f : Frame). sense.stands (list ++ f ∷ []) (sense.stepped held step)) (sym is_frame) on.1,
+      subst (λ (f : Frame). StandsWith sense held step (list ++ f ∷ [])) (sym is_frame) on.1,
     )
 
 -- ---- a reading
@@ -72,13 +84,13 @@ never_unread reads w kind number P a b area at image now is =
     let x = spelled_read reads kind number tells.value (w.seen a) (w.seen b) tells.spelled in
     not_both _ (area, at) (sym x.is ∙ is)
 
-pub none_in_doubt : {C S : Type 0} (sense : Sense C S) (held : C) (doubt : Option S) (list : List Frame) → doubt ≡ None → Means sense held doubt list → (sense.stands list held → ⊥) → ⊥
+pub none_in_doubt : {C S : Type 0} (sense : Sense C S) (held : C) (doubt : Option S) (list : List Frame) → doubt ≡ None → Means sense held doubt list → (StandsFor sense held list → ⊥) → ⊥
 none_in_doubt sense held None list is (inl stand) not_so = not_so stand
 none_in_doubt sense held None list is (inr none) not_so = none
 none_in_doubt sense held (Some step) list is means not_so = absurd (let none : ⊥ = cc in none)
 
-pub one_in_doubt : {C S : Type 0} (sense : Sense C S) (held : C) (doubt : Option S) (step : S) (list : List Frame) → doubt ≡ Some step → Means sense held doubt list → (sense.stands list held → ⊥)
-    → (sense.stands list (sense.stepped held step) → ⊥) → ⊥
+pub one_in_doubt : {C S : Type 0} (sense : Sense C S) (held : C) (doubt : Option S) (step : S) (list : List Frame) → doubt ≡ Some step → Means sense held doubt list → (StandsFor sense held list → ⊥)
+    → (StandsWith sense held step list → ⊥) → ⊥
 one_in_doubt sense held doubt step list is (inl stand) not_so nor_so = not_so stand
 one_in_doubt {S = S} sense held doubt step list is (inr in_doubt) not_so nor_so = nor_so (subst (λ (d : Option S). IfDoubt sense held d list) is in_doubt)
 
@@ -115,10 +127,10 @@ causes_pass T U faults old new refused x is causes = record {
 
 -- ---- a checkpoint
 
-pub both_stand : {C S : Type 0} (sense : Sense C S) (held : C) (list pieces : List Frame) → sense.stands list held → sense.stands pieces held → (fs : List Frame) → (fs ≡ list) ⊎ (fs ≡ pieces)
-    → sense.stands fs held
-both_stand sense held list pieces stand stand_too fs (inl same) = subst (λ (gs : List Frame). sense.stands gs held) (sym same) stand
-both_stand sense held list pieces stand stand_too fs (inr same) = subst (λ (gs : List Frame). sense.stands gs held) (sym same) stand_too
+pub both_stand : {C S : Type 0} (sense : Sense C S) (held : C) (list pieces : List Frame) → StandsFor sense held list → StandsFor sense held pieces → (fs : List Frame) → (fs ≡ list) ⊎ (fs ≡ pieces)
+    → StandsFor sense held fs
+both_stand sense held list pieces stand stand_too fs (inl same) = subst (StandsFor sense held) (sym same) stand
+both_stand sense held list pieces stand stand_too fs (inr same) = subst (StandsFor sense held) (sym same) stand_too
 
 pub either_now : {D : Type 0} (w : Watch D) (kind number : ℕ) (list pieces : List Frame) (ta tb : ℕ) (a b : D) (P : List Frame → Type 0) → CountsNow w → ((fs : List Frame) → (fs ≡ list) ⊎ (fs ≡ pieces) → P fs)
     → SpellsEither w kind number list pieces ta tb a b → Now w (Spells kind number) P a b
@@ -131,11 +143,11 @@ either_since w kind number list pieces ta tb a b P to either = since_weaker w (S
 
 -- nothing was written
 pub runs_since : {D C S : Type 0} (w : Watch D) (sense : Sense C S) (store : StoreView D) (held : C) → OnlyNow w → Runs w sense store held
-    → Since w (Spells store.kind store.number) (λ fs. sense.stands fs held) (w.moment (area_a store)) (w.moment (area_b store)) (area_a store) (area_b store)
+    → Since w (Spells store.kind store.number) (StandsFor sense held) (w.moment (area_a store)) (w.moment (area_b store)) (area_a store) (area_b store)
 runs_since w sense store held only runs =
-    since_begins w (Spells store.kind store.number) (λ fs. sense.stands fs held) (area_a store) (area_b store) only
-    (now_weaker w (Spells store.kind store.number) (λ fs. fs ≡ runs.frames) (λ fs. sense.stands fs held) (area_a store) (area_b store)
-    (λ fs same. subst (λ (gs : List Frame). sense.stands gs held) (sym same) runs.stand) (frames_now w store runs.frames runs.has))
+    since_begins w (Spells store.kind store.number) (StandsFor sense held) (area_a store) (area_b store) only
+    (now_weaker w (Spells store.kind store.number) (λ fs. fs ≡ runs.frames) (StandsFor sense held) (area_a store) (area_b store)
+    (λ fs same. subst (StandsFor sense held) (sym same) runs.stand) (frames_now w store runs.frames runs.has))
 
 pub sound_after : {D C S : Type 0} (U : Type 0) (w : Watch D) (sense : Sense C S) (old : KeptView D C S) (s : StoreView D) (b : Bool) (refused : StoreRefused) → IsFaultOrSpent {T = U} (Err refused)
     → b ≡ fails_by {T = U} false (Err refused) → old.failed ≡ false → (refused ≡ store.EpochSpent → s ≡ old.store) → IsSound w sense old → s.kind ≡ old.store.kind
@@ -146,7 +158,6 @@ sound_after {D = D} U w sense old s b store.EpochSpent alone failed running unto
   kind = kind ∙ sound.kind;
   now = now;
   runs = λ e. subst (λ (t : StoreView D). Runs w sense t old.held) (sym (untouched refl)) (sound.runs running);
-  clear = λ e. sound.clear running;
 }
 sound_after U w sense old s b store.Memory alone failed running untouched sound kind now = absurd alone
 
@@ -193,5 +204,4 @@ armed_sound w sense old s area less counts only rests beside has same sound =
       runs = λ e.
           let r = sound.runs e in
           record { frames = r.frames; has = has r.frames r.has; stand = r.stand };
-      clear = sound.clear;
     }

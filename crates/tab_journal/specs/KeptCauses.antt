@@ -2,7 +2,7 @@
 use Rattle.std.specs.Prelude.{◌≡◌, ℕ, ◌-◌, ◌^◌, ◌≤◌, ◌⊎◌, Bool, false, true, Some, None, Result, Ok, Err}
 use Rattle.tab_outside.specs.Faults.{Rose}
 use Rattle.tab_journal.specs.Stores.{area_a, area_b}
-use Rattle.tab_journal.specs.Keeping.{Sense, KeptView, IsSettled}
+use Rattle.tab_journal.specs.Keeping.{Sense, KeptView, IsDone, IsSettled}
 use Rattle.tab_journal.specs.declared.refusals.StoreRefused.{StoreRefused}
 use Rattle.tab_journal.specs.declared.refusals.StoreRefused.TheVariants as store
 use Rattle.tab_journal.specs.declared.kept.KeptRefused.{KeptRefused}
@@ -17,7 +17,7 @@ passed_on store.Memory = Memory
 
 -- a step is done, or a disk failed and it is in doubt, or no memory was found and all is as before
 abbrev pub AfterChange : {D C S T : Type 0} → Sense C S → KeptView D C S → KeptView D C S → S → Result T KeptRefused → Type 0
-AfterChange sense old new step (Ok x) = (new.held ≡ sense.stepped old.held step) × (new.doubt ≡ old.doubt) × (new.failed ≡ false)
+AfterChange sense old new step (Ok x) = IsDone sense old.held step new.held × (new.doubt ≡ None) × (new.failed ≡ false)
 AfterChange sense old new step (Err (DiskFault area)) = (new.held ≡ old.held) × (new.doubt ≡ Some step) × (new.failed ≡ true)
 AfterChange sense old new step (Err Memory) = new ≡ old
 AfterChange sense old new step (Err _) = ⊥
@@ -30,7 +30,7 @@ AfterSettling sense old new (Err _) = (new.held ≡ old.held) × (new.doubt ≡ 
 
 -- what is held is held still; the store runs, or a disk failed, or the last epoch is reached or no memory was found and all is as before
 abbrev pub AfterCheckpoint : {D C S T : Type 0} → KeptView D C S → KeptView D C S → Result T KeptRefused → Type 0
-AfterCheckpoint old new (Ok x) = (new.held ≡ old.held) × (new.doubt ≡ old.doubt) × (new.failed ≡ false)
+AfterCheckpoint old new (Ok x) = (new.held ≡ old.held) × (new.doubt ≡ None) × (new.failed ≡ false)
 AfterCheckpoint old new (Err (DiskFault area)) = (new.held ≡ old.held) × (new.doubt ≡ old.doubt) × (new.failed ≡ true)
 AfterCheckpoint old new (Err EpochSpent) = (new ≡ old) × (old.store.epoch ≡ 2 ^ 64 - 1)
 AfterCheckpoint old new (Err Memory) = new ≡ old

@@ -59,6 +59,11 @@ pub record IsUnmoved {D : Type 0} (old new : StoreView D) : Type 0 where
   pub other_open : new.other_open ≡ old.other_open
   pub places : new.places ≡ old.places
 
+-- both disks have failures and stops where they had them
+pub record KeepsStops {D : Type 0} (has_stops : D → Bool) (old new : StoreView D) : Type 0 where
+  pub a : has_stops (area_a new) ≡ has_stops (area_a old)
+  pub b : has_stops (area_b new) ≡ has_stops (area_b old)
+
 -- ---- causes
 
 -- a disk fault of an area comes only where that disk's count rose, and no count falls

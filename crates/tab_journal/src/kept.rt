@@ -1,13 +1,14 @@
 //! What a store stands for, in memory and on its two disks, with at most one step in doubt.
 
 ghost use Rattle.std.specs.Prelude.{◌≡◌, ℕ, ◌-◌, ◌^◌, ◌≤◌, ◌⊎◌, ◌||◌, ◌&&◌, List, false, true, None, Some, IsTrue, IsFalse, IfOk, IfErr, OnOk, OnErr, IfSome, Ok, Err};
+ghost use Rattle.std.specs.Option.{option_copied};
 ghost use Rattle.tab_outside.specs.Armed.{with_fail, with_stop};
 ghost use Rattle.tab_outside.specs.Disks.{Rests};
 ghost use Rattle.tab_outside.specs.Pairs.{Extends, AddsNone, Since};
 ghost use Rattle.tab_codec.specs.declared.frames.Frame.{Frame};
 ghost use Rattle.tab_journal.specs.Areas.{Spells};
-ghost use Rattle.tab_journal.specs.Stores.{area_a, area_b, area_of, IsSameStore, IsUnmoved, HasFrames};
-ghost use Rattle.tab_journal.specs.Keeping.{Sense, GoesOn, ChecksOut, IsSound, IsRewritten};
+ghost use Rattle.tab_journal.specs.Stores.{area_a, area_b, area_of, IsSameStore, IsUnmoved, KeepsStops, HasFrames};
+ghost use Rattle.tab_journal.specs.Keeping.{Sense, GoesOn, ChecksOut, StandsFor, StandsWith, IsSound, IsClear, IsDone, IsReady, IsRewritten, StandsStill};
 ghost use Rattle.tab_journal.specs.KeptCauses.{passed_on, AfterChange, AfterSettling, AfterCheckpoint, KeptCauses};
 ghost use Rattle.tab_journal.specs.declared.kept.KeptRefused.TheVariants.{Damaged};
 
@@ -18,32 +19,33 @@ use tab_codec::{Frame, Prepared};
 use tab_keys::Memory;
 use tab_outside::Disk;
 
-/// What a store's frames stand for.
+/// What a store's frames stand for, with what is held beside it in memory alone.
 pub trait Content: Drop {
     /// One step of it, which is one frame.
     type Step: Drop;
 
-    /// Which frames stand for it, and what a step makes of it.
+    /// What frames tell of it, which frames stand for that, and what a step makes of it.
     ghost sense: { Sense Self Self.Step };
 
     /// The frame of a step.
     fn prepare(&self, alloc: Global, step: &Self::Step) -> Result<Prepared, Memory>
-        requires { sense.fits self.now step.now }
+        requires { sense.fits (sense.tells self.now) step.now }
         ensures { IfOk result (λ prepared. prepared ≡ sense.frame_of step.now) };
 
     /// The frames of a checkpoint.
     fn pieces(&self, alloc: Global) -> Result<Vec<Prepared>, Memory>
-        ensures { IfOk result (λ pieces. sense.is_checkpoint pieces.items self.now) };
+        ensures { IfOk result (λ pieces. sense.is_checkpoint pieces.items (sense.tells self.now)) };
 
     /// Does a step; this takes no memory.
     fn apply(&mut self, step: Self::Step)
-        requires { sense.fits self.old step }
-        ensures { self.new ≡ sense.stepped self.old step };
+        requires fits { sense.fits (sense.tells self.old) step }
+        requires ready { sense.ready self.old step }
+        ensures { IsDone sense self.old step self.new };
 
     /// Whether the frames stand for it.
     fn is_read(&self, alloc: Global, frames: &[Frame]) -> Result<bool, Memory>
-        ensures yes { IfOk result (λ is. IsTrue is → sense.stands frames.now self.now) }
-        ensures no { IfOk result (λ is. IsFalse is → sense.stands frames.now self.now → ⊥) };
+        ensures yes { IfOk result (λ is. IsTrue is → StandsFor sense self.now frames.now) }
+        ensures no { IfOk result (λ is. IsFalse is → StandsFor sense self.now frames.now → ⊥) };
 
     /// Whether they stand for it with the step.
     fn is_read_with(
@@ -52,13 +54,14 @@ pub trait Content: Drop {
         step: &Self::Step,
         frames: &[Frame],
     ) -> Result<bool, Memory>
-        ensures yes { IfOk result (λ is. IsTrue is → sense.stands frames.now (sense.stepped self.now step.now)) }
-        ensures no { IfOk result (λ is. IsFalse is → sense.stands frames.now (sense.stepped self.now step.now) → ⊥) };
+        requires { sense.fits (sense.tells self.now) step.now }
+        ensures yes { IfOk result (λ is. IsTrue is → StandsWith sense self.now step.now frames.now) }
+        ensures no { IfOk result (λ is. IsFalse is → StandsWith sense self.now step.now frames.now → ⊥) };
 
-    /// A step's frame goes on from frames that stand for what is held.
+    /// A step's frame goes on from frames that stand for what is told.
     ghost goes_on: { GoesOn sense };
 
-    /// The frames of a checkpoint stand for what is held.
+    /// The frames of a checkpoint stand for what is told.
     ghost checks_out: { ChecksOut sense };
 }
 
@@ -99,21 +102,21 @@ pub struct Kept<D, C: Content> {
 }
 
 impl<D, C: Content> Model for Kept<D, C> {
-    ghost use Rattle.std.specs.Prelude.{◌≡◌, false};
+    ghost use Rattle.std.specs.Prelude.{◌≡◌, false, None};
     ghost use Rattle.tab_journal.specs.Keeping.{KeptView};
 
     ghost Value = { KeptView D C C.Step };
 
     ghost view = { λ kept. record { store = kept.store; held = kept.held; doubt = kept.doubt; failed = kept.failed } };
 
-    ghost invariant = { λ kept. kept.failed ≡ false → kept.store.failed ≡ false };
+    ghost invariant = { λ kept. kept.failed ≡ false → (kept.store.failed ≡ false) × (kept.doubt ≡ None) };
 }
 
 impl<D: Disk, C: Content> Kept<D, C> {
     /// A store that runs, and what its frames stand for.
     pub fn new(store: Store<D>, held: C) -> Kept<D, C>
         ensures view { result ≡ record { store = store; held = held; doubt = None; failed = store.failed } }
-        ensures sound { D.honest → store.kind ≡ C.sense.kind → (frames : List Frame) → HasFrames D.watch store frames → C.sense.stands frames held → IsSound D.watch C.sense result }
+        ensures sound { D.honest → store.kind ≡ C.sense.kind → (frames : List Frame) → HasFrames D.watch store frames → StandsFor C.sense held frames → IsSound D.watch C.sense result }
     {
         let failed = store.failed();
         Kept {
@@ -127,13 +130,15 @@ impl<D: Disk, C: Content> Kept<D, C> {
     /// Does a step: on the disks, and then in memory.
     pub fn change(&mut self, alloc: Global, step: C::Step) -> Result<(), KeptRefused>
         requires running { IsFalse self.old.failed }
-        requires fits { C.sense.fits self.old.held step }
+        requires fits { C.sense.fits (C.sense.tells self.old.held) step }
+        requires ready { C.sense.ready self.old.held step }
         requires sound { D.honest → IsSound D.watch C.sense self.old }
         ensures sound { D.honest → IsSound D.watch C.sense self.new }
         ensures after { AfterChange C.sense self.old self.new step result }
-        ensures images { D.honest → Extends D.watch (Spells self.old.store.kind self.old.store.number) (λ frames. C.sense.stands frames (C.sense.stepped self.old.held step))
+        ensures images { D.honest → Extends D.watch (Spells self.old.store.kind self.old.store.number) (StandsWith C.sense self.old.held step)
             (area_a self.old.store) (area_b self.old.store) (area_a self.new.store) (area_b self.new.store) }
         ensures same { IsSameStore self.old.store self.new.store }
+        ensures stops { KeepsStops D.has_stops self.old.store self.new.store }
         ensures causes { KeptCauses D.faults self.old self.new result }
     {
         let Ok(prepared) = self.held.prepare(alloc, &step) else {
@@ -155,7 +160,7 @@ impl<D: Disk, C: Content> Kept<D, C> {
     /// Reads the store anew, and answers whether the step in doubt stands.
     pub fn settle(&mut self, alloc: Global) -> Result<bool, KeptRefused>
         requires failed { IsTrue self.old.failed }
-        requires fits { IfSome self.old.doubt (λ step. C.sense.fits self.old.held step) }
+        requires ready { IsReady C.sense self.old.held self.old.doubt }
         requires sound { D.honest → IsSound D.watch C.sense self.old }
         ensures sound { D.honest → IsSound D.watch C.sense self.new }
         ensures after { AfterSettling C.sense self.old self.new result }
@@ -163,6 +168,7 @@ impl<D: Disk, C: Content> Kept<D, C> {
         ensures images_a { D.honest → AddsNone D.watch (area_a self.old.store) (area_a self.new.store) }
         ensures images_b { D.honest → AddsNone D.watch (area_b self.old.store) (area_b self.new.store) }
         ensures same { IsSameStore self.old.store self.new.store }
+        ensures stops { KeepsStops D.has_stops self.old.store self.new.store }
         ensures causes { KeptCauses D.faults self.old self.new result }
     {
         let frames = match self.store.reopen(alloc) {
@@ -178,7 +184,7 @@ impl<D: Disk, C: Content> Kept<D, C> {
             return Ok(false);
         }
         let Some(step) = self.doubt.take() else {
-            return Err(self.damaged(frames.len()));
+            return Err(self.damaged());
         };
         let Ok(stands) = self.held.is_read_with(alloc, &step, &frames) else {
             self.doubt = Some(step);
@@ -190,14 +196,14 @@ impl<D: Disk, C: Content> Kept<D, C> {
             return Ok(true);
         }
         self.doubt = Some(step);
-        Err(self.damaged(frames.len()))
+        Err(self.damaged())
     }
 
     /// The frames that were read end at a place, and stand for something else.
-    fn damaged(&self, count: usize) -> KeptRefused
+    fn damaged(&self) -> KeptRefused
         ensures { (area : ℕ) × (at : ℕ) × (result ≡ Damaged area at) }
     {
-        let (area, at) = self.store.place(count);
+        let (area, at) = self.store.end();
         KeptRefused::Damaged { area, at }
     }
 
@@ -209,9 +215,10 @@ impl<D: Disk, C: Content> Kept<D, C> {
         ensures ok { D.honest → OnOk result (IsRewritten D.watch C.sense self.new) }
         ensures after { AfterCheckpoint self.old self.new result }
         ensures spent { self.old.store.epoch ≡ 2 ^ 64 - 1 → (result ≡ Err KeptRefused.EpochSpent) ⊎ (result ≡ Err KeptRefused.Memory) }
-        ensures images { D.honest → Since D.watch (Spells self.old.store.kind self.old.store.number) (λ frames. C.sense.stands frames self.old.held)
+        ensures images { D.honest → Since D.watch (Spells self.old.store.kind self.old.store.number) (StandsFor C.sense self.old.held)
             (D.watch.moment (area_a self.old.store)) (D.watch.moment (area_b self.old.store)) (area_a self.new.store) (area_b self.new.store) }
         ensures same { IsSameStore self.old.store self.new.store }
+        ensures stops { KeepsStops D.has_stops self.old.store self.new.store }
         ensures causes { KeptCauses D.faults self.old self.new result }
     {
         let Ok(pieces) = self.held.pieces(alloc) else {
@@ -228,9 +235,17 @@ impl<D: Disk, C: Content> Kept<D, C> {
 
     /// Whether the store has to be read anew.
     pub fn failed(&self) -> bool
-        ensures { result ≡ self.now.failed }
+        ensures is { result ≡ self.now.failed }
+        ensures clear { IsClear self.now }
     {
         self.failed
+    }
+
+    /// The step of which it is open whether it stands.
+    pub fn doubt(&self) -> Option<&C::Step>
+        ensures { option_copied result ≡ self.now.doubt }
+    {
+        self.doubt.as_ref()
     }
 
     /// What is held in memory.
@@ -238,6 +253,15 @@ impl<D: Disk, C: Content> Kept<D, C> {
         ensures { result.now ≡ self.now.held }
     {
         &self.held
+    }
+
+    /// What is held in memory, to change what frames do not tell of it, or need not tell any longer.
+    pub fn held_mut(&mut self) -> &mut C
+        ensures value { result.now ≡ self.old.held }
+        ensures sound { D.honest → IsSound D.watch C.sense self.old → (held : C) → StandsStill C.sense self.old.held self.old.doubt held
+            → IsSound D.watch C.sense (record self.old { held = held }) }
+    {
+        &mut self.held
     }
 
     /// The disks of area 0 and of area 1.
@@ -261,6 +285,7 @@ impl<D: Disk, C: Content> Kept<D, C> {
         ensures sound { D.honest → IsSound D.watch C.sense self.old → IsSound D.watch C.sense self.new }
         ensures kept { (self.new.held ≡ self.old.held) × (self.new.doubt ≡ self.old.doubt) × (self.new.failed ≡ self.old.failed) }
         ensures unmoved { IsUnmoved self.old.store self.new.store }
+        ensures stops { KeepsStops D.has_stops self.old.store self.new.store }
     {
         self.store.arm_fail(area, after)
     }
@@ -278,6 +303,7 @@ impl<D: Disk, C: Content> Kept<D, C> {
         ensures sound { D.honest → IsSound D.watch C.sense self.old → IsSound D.watch C.sense self.new }
         ensures kept { (self.new.held ≡ self.old.held) × (self.new.doubt ≡ self.old.doubt) × (self.new.failed ≡ self.old.failed) }
         ensures unmoved { IsUnmoved self.old.store self.new.store }
+        ensures stops { KeepsStops D.has_stops self.old.store self.new.store }
     {
         self.store.arm_stop(area, after)
     }

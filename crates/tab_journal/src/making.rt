@@ -46,6 +46,8 @@ impl<D: Disk> Store<D> {
         ensures causes_ok { IfOk result (λ store. (D.faults a ≤ D.faults (area_a store)) × (D.faults b ≤ D.faults (area_b store))) }
         ensures causes { IfErr result (λ back. IsRefusedFor D.faults a b back) }
         ensures never { IfErr result (λ back. (area at : ℕ) → back.refused ≡ NotAStore area at → ⊥) }
+        ensures stops { IfOk result (λ store. (D.has_stops (area_a store) ≡ D.has_stops a) × (D.has_stops (area_b store) ≡ D.has_stops b)) }
+        ensures stops_back { IfErr result (λ back. (D.has_stops back.a ≡ D.has_stops a) × (D.has_stops back.b ≡ D.has_stops b)) }
     {
         let Ok(pieces) = prepared(alloc, base) else {
             return Err(Back {
@@ -83,6 +85,8 @@ impl<D: Disk> Store<D> {
         ensures images { D.honest → IfErr result (λ back. AddsNone D.watch a back.a × AddsNone D.watch b back.b) }
         ensures causes { IfErr result (λ back. IsRefusedFor D.faults a b back) }
         ensures causes_ok { IfOk result (λ opened. (D.faults a ≤ D.faults (area_a opened.0)) × (D.faults b ≤ D.faults (area_b opened.0))) }
+        ensures stops { IfOk result (λ opened. (D.has_stops (area_a opened.0) ≡ D.has_stops a) × (D.has_stops (area_b opened.0) ≡ D.has_stops b)) }
+        ensures stops_back { IfErr result (λ back. (D.has_stops back.a ≡ D.has_stops a) × (D.has_stops back.b ≡ D.has_stops b)) }
     {
         let mut store = Store::unread(alloc, a, b, kind, number);
         match store.reopen(alloc) {
@@ -115,6 +119,8 @@ fn make<D: Disk>(a: &mut D, b: &mut D, kind: u8, number: u8, pieces: &[Prepared]
     ensures cause_a { HasCauseFor (D.faults a.old) (D.faults a.new) result 0 }
     ensures cause_b { HasCauseFor (D.faults b.old) (D.faults b.new) result 1 }
     ensures area { IfErr result (λ area. area ≤ 1) }
+    ensures stops_a { D.has_stops a.new ≡ D.has_stops a.old }
+    ensures stops_b { D.has_stops b.new ≡ D.has_stops b.old }
 {
     if close_area(a).is_err() {
         return Err(0);
@@ -132,6 +138,7 @@ fn make<D: Disk>(a: &mut D, b: &mut D, kind: u8, number: u8, pieces: &[Prepared]
 fn build<D: Disk>(disk: &mut D, kind: u8, number: u8, pieces: &[Prepared]) -> Result<u64, Failed>
     ensures done { D.honest → EachNow D.watch IsClosed disk.old → IfOk result (λ end. IsMade D.watch kind number pieces.now end disk.new) }
     ensures cause { HasCause (D.faults disk.old) (D.faults disk.new) result }
+    ensures stops { D.has_stops disk.new ≡ D.has_stops disk.old }
 {
     write_closed(disk, 1, &header_bytes(kind, number, FIRST_EPOCH))?;
     let mut at = FIRST_GATE as u64;

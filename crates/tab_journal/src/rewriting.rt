@@ -3,7 +3,7 @@
 ghost use Rattle.std.specs.Prelude.{min, ◌≡◌, ◌≢◌, ℕ, ◌+◌, ◌-◌, ◌^◌, ◌⊎◌, ◌↔◌, List, [], false, None, IsFalse, OnOk, Err};
 ghost use Rattle.tab_codec.specs.declared.frames.Frame.{Frame};
 ghost use Rattle.tab_journal.specs.Areas.{AreFrames};
-ghost use Rattle.tab_journal.specs.Stores.{area_a, area_b, IsSameStore, IsUnmoved, IsFaultAlone, IsFaultOrSpent, StoreCauses, fails_by, HasFrames, HasPieces, KeptSince, SpellsEither};
+ghost use Rattle.tab_journal.specs.Stores.{area_a, area_b, IsSameStore, IsUnmoved, IsFaultAlone, IsFaultOrSpent, StoreCauses, fails_by, HasFrames, HasPieces, KeepsStops, KeptSince, SpellsEither};
 ghost use Rattle.tab_journal.specs.declared.refusals.StoreRefused.TheVariants.{EpochSpent};
 
 use crate::{Store, StoreRefused};
@@ -23,6 +23,7 @@ impl<D: Disk> Store<D> {
         ensures untouched { result ≡ Err EpochSpent → self.new ≡ self.old }
         ensures same { IsSameStore self.old self.new }
         ensures failed { self.new.failed ≡ fails_by false result }
+        ensures stops { KeepsStops D.has_stops self.old self.new }
         ensures causes { StoreCauses D.faults self.old self.new result }
     {
         self.compact_begin()?;
@@ -42,6 +43,7 @@ impl<D: Disk> Store<D> {
         ensures unmoved { IsUnmoved self.old self.new }
         ensures fault { IsFaultAlone result }
         ensures failed { self.new.failed ≡ fails_by false result }
+        ensures stops { KeepsStops D.has_stops self.old self.new }
         ensures causes { StoreCauses D.faults self.old self.new result }
     {
         for piece in pieces {

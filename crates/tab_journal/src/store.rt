@@ -1,6 +1,7 @@
 //! A store over two areas: frames are appended to the current one, and a compaction writes the other one anew.
 
-ghost use Rattle.std.specs.Prelude.{get_or, min, not, ◌==◌, ◌≡◌, ◌≢◌, ℕ, ◌+◌, ◌-◌, ◌^◌, ◌<◌, ◌≤◌, ◌⊎◌, ◌↔◌, ◌||◌, ◌&&◌, List, [], ◌∷◌, ◌++◌, length, true, false, cond, Some, None, IsTrue, IsFalse, IfOk, IfErr, OnOk, OnErr, Ok, Err, IfSome};
+ghost use Rattle.std.specs.Prelude.{get_or, min, nat_lt, not, ◌==◌, ◌≡◌, ◌≢◌, ℕ, ◌+◌, ◌-◌, ◌^◌, ◌<◌, ◌≤◌, ◌⊎◌, ◌↔◌, ◌||◌, ◌&&◌, List, [], ◌∷◌, ◌++◌, length, true, false, cond, Some, None, IsTrue, IsFalse, IfOk, IfErr, OnOk, OnErr, Ok, Err, IfSome};
+ghost use Rattle.std.specs.Option.{is_some};
 ghost use Rattle.tab_outside.specs.Armed.{after_call, with_fail, with_stop};
 ghost use Rattle.tab_outside.specs.Disks.{LeavesOnly, Rests};
 ghost use Rattle.tab_outside.specs.Faults.{HasCause};
@@ -10,7 +11,7 @@ ghost use Rattle.tab_codec.specs.Frames.{AreBytes};
 ghost use Rattle.tab_journal.specs.Areas.{Spells, AreFrames, IsClosed, IsUnder, opened, first_gate};
 ghost use Rattle.tab_journal.specs.Fitting.{Fits};
 ghost use Rattle.tab_journal.specs.Reading.{front_of, is_open, read_areas};
-ghost use Rattle.tab_journal.specs.Stores.{StoreView, area_a, area_b, current_area, area_of, is_fault, IsFaultOrMemory, IsSameStore, IsUnmoved, StoreCauses, fails_by, IsFaultAlone, IsFaultOrSpent, ReadsAreas, Answers, adopted, IsSpare, HasFrames, HasPieces, KeptSince, SpellsEither, gates_from};
+ghost use Rattle.tab_journal.specs.Stores.{StoreView, area_a, area_b, current_area, area_of, is_fault, IsFaultOrMemory, IsSameStore, IsUnmoved, StoreCauses, fails_by, IsFaultAlone, IsFaultOrSpent, ReadsAreas, Answers, adopted, IsSpare, HasFrames, HasPieces, KeepsStops, KeptSince, SpellsEither, gates_from};
 ghost use Rattle.tab_journal.specs.Steps.{EachNow, Adds};
 ghost use Rattle.tab_journal.specs.declared.refusals.StoreRefused.TheVariants.{DiskFault, EpochSpent};
 
@@ -125,6 +126,7 @@ impl<D: Disk> Store<D> {
         ensures places { self.new.places ≡ self.old.places }
         ensures fault { IsFaultAlone result }
         ensures failed { self.new.failed ≡ fails_by false result }
+        ensures stops { KeepsStops D.has_stops self.old self.new }
         ensures causes { StoreCauses D.faults self.old self.new result }
     {
         let piece = prepared.bytes();
@@ -151,6 +153,7 @@ impl<D: Disk> Store<D> {
         ensures current { self.new.current ≡ self.old.current }
         ensures unmoved { IsUnmoved self.old (record self.new { other_open = self.old.other_open }) }
         ensures failed { self.new.failed ≡ fails_by false result }
+        ensures stops { KeepsStops D.has_stops self.old self.new }
         ensures causes { StoreCauses D.faults self.old self.new result }
     {
         let Some(epoch) = self.epoch.checked_add(1) else {
@@ -199,6 +202,7 @@ impl<D: Disk> Store<D> {
         ensures unmoved { IsUnmoved self.old self.new }
         ensures fault { IsFaultAlone result }
         ensures failed { self.new.failed ≡ fails_by false result }
+        ensures stops { KeepsStops D.has_stops self.old self.new }
         ensures causes { StoreCauses D.faults self.old self.new result }
     {
         let at = self.building.unwrap_or(0);
@@ -226,6 +230,7 @@ impl<D: Disk> Store<D> {
         ensures unmoved { OnErr result (IsUnmoved self.old self.new) }
         ensures fault { IsFaultAlone result }
         ensures failed { self.new.failed ≡ fails_by false result }
+        ensures stops { KeepsStops D.has_stops self.old self.new }
         ensures causes { StoreCauses D.faults self.old self.new result }
     {
         let end = self.building.unwrap_or(0);
@@ -257,6 +262,7 @@ impl<D: Disk> Store<D> {
         ensures unmoved { OnErr result (IsUnmoved self.old self.new) }
         ensures running { OnOk result (IsFalse self.new.failed) }
         ensures failed { OnErr result (self.new.failed ≡ fails_by self.old.failed result) }
+        ensures stops { KeepsStops D.has_stops self.old self.new }
         ensures causes { StoreCauses D.faults self.old self.new result }
     {
         let (a, b) = match self.read_disks(alloc) {
@@ -296,6 +302,7 @@ impl<D: Disk> Store<D> {
         ensures images_b { D.honest → AddsNone D.watch (area_b self.old) (area_b self.new) }
         ensures view { self.new ≡ record self.old { current = self.new.current; other = self.new.other } }
         ensures alone { IsFaultOrMemory result }
+        ensures stops { KeepsStops D.has_stops self.old self.new }
         ensures causes { StoreCauses D.faults self.old self.new result }
     {
         if self.second {
@@ -364,19 +371,30 @@ impl<D: Disk> Store<D> {
         }
     }
 
-    /// The current area, and the offset of a frame's gate in it; for the count of frames the offset where they end.
-    pub fn place(&self, frame: usize) -> (u8, u64)
+    /// The current area, and the offset in it where the frames end: that of the gate behind them, which stands closed.
+    pub fn end(&self) -> (u8, u64)
         ensures area { result.0 ≡ current_area self.now }
-        ensures gate { D.honest → (frames : List Frame) → HasFrames D.watch self.now frames → frame < length self.now.places
-            → result.1 ≡ get_or (gates_from first_gate frames) frame 0 }
-        ensures end { D.honest → (frames : List Frame) → HasFrames D.watch self.now frames → frame ≡ length frames
-            → result.1 ≡ first_gate + length (opened frames) }
+        ensures end { D.honest → (frames : List Frame) → HasFrames D.watch self.now frames → result.1 ≡ first_gate + length (opened frames) }
     {
-        let area = if self.second { 1 } else { 0 };
-        if frame < self.places.len() {
-            return (area, self.places[frame]);
-        }
-        (area, self.end)
+        (self.current_area(), self.end)
+    }
+
+    /// The current area, and the offset of a frame's gate in it. It is known of the frames that were read as the store was
+    /// opened, until they are rewritten; a frame that was appended since has it behind these.
+    pub fn place(&self, frame: usize) -> Option<(u8, u64)>
+        ensures known { is_some result ≡ nat_lt frame (length self.now.places) }
+        ensures area { IfSome result (λ place. place.0 ≡ current_area self.now) }
+        ensures gate { D.honest → (frames : List Frame) → HasFrames D.watch self.now frames
+            → IfSome result (λ place. place.1 ≡ get_or (gates_from first_gate frames) frame 0) }
+    {
+        let gate = *self.places.get(frame)?;
+        Some((self.current_area(), gate))
+    }
+
+    fn current_area(&self) -> u8
+        ensures { result ≡ current_area self.now }
+    {
+        if self.second { 1 } else { 0 }
     }
 
     /// Makes the call number `after` from now on the disk of an area fail once; false where the disk has no such thing.
@@ -391,6 +409,7 @@ impl<D: Disk> Store<D> {
         ensures kept { D.honest → (frames : List Frame) → HasFrames D.watch self.old frames → HasFrames D.watch self.new frames }
         ensures unmoved { IsUnmoved self.old self.new }
         ensures failed { self.new.failed ≡ self.old.failed }
+        ensures stops { KeepsStops D.has_stops self.old self.new }
     {
         if (area == 1) == self.second {
             self.current.arm_fail(after)
@@ -412,6 +431,7 @@ impl<D: Disk> Store<D> {
         ensures kept { D.honest → (frames : List Frame) → HasFrames D.watch self.old frames → HasFrames D.watch self.new frames }
         ensures unmoved { IsUnmoved self.old self.new }
         ensures failed { self.new.failed ≡ self.old.failed }
+        ensures stops { KeepsStops D.has_stops self.old self.new }
     {
         if (area == 1) == self.second {
             self.current.arm_stop(after)

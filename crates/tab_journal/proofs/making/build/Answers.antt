@@ -1,4 +1,4 @@
-use Rattle.std.proofs.Common.{◌<◌, ◌++◌, ℕ, List, length, take, subst, arith}
+use Rattle.std.proofs.Common.{◌<◌, ◌++◌, ℕ, List, length, take, subst, arith, ◌∙◌}
 use Rattle.std.proofs.lemmas.List.{take_all}
 use Rattle.tab_journal.specs.Areas.{header, opened}
 use Rattle.tab_journal.specs.Steps.{IsBuilt}
@@ -10,6 +10,7 @@ loop-piece-init g c = record {
   built = λ honest closed. headed g.D.Disk.watch c.args.kind c.args.number _ _ c.header_bytes.result (g.met.D.Disk.reads_image honest) closed c.header_bytes.ensures (c.in_ok-write_closed.ensures.built honest);
   place = λ honest. headed_size c.args.kind c.args.number;
   spelled = tt;
+  stops = c.write_closed.ensures.stops;
   later = c.write_closed.ensures.cause.later;
 }
 
@@ -25,6 +26,7 @@ loop-piece-preserved g c =
           (c.in_ok-at.ensures.built honest (head ++ opened (take n list)) (i.built honest closed) (i.place honest));
       place = λ honest. next_size head list n c.loop-piece.at c.in_ok-at.at _ _ within c.piece-item.is (i.place honest) (c.in_ok-at.ensures.end honest);
       spelled = spelled_next list n _ _ within c.piece-item.is i.spelled c.write_piece.ensures.spelled;
+      stops = c.write_piece.ensures.stops ∙ i.stops;
       later = omega (arith, i.later, c.write_piece.ensures.cause.later);
     }
 

@@ -10,5 +10,6 @@ invariant-loop-piece g l = record {
   built : g.D.Disk.honest → EachNow g.D.Disk.watch IsClosed l.fn.disk → IsBuilt g.D.Disk.watch (header l.fn.kind l.fn.number 1 ++ opened (take l.piece-index l.pieces)) l.disk;
   place : g.D.Disk.honest → l.at ≡ 1 + length (header l.fn.kind l.fn.number 1 ++ opened (take l.piece-index l.pieces));
   spelled : AllByRecursion HasSpelling (take l.piece-index l.pieces);
+  stops : g.D.Disk.has_stops l.disk ≡ g.D.Disk.has_stops l.fn.disk;
   later : g.D.Disk.faults l.fn.disk ≤ g.D.Disk.faults l.disk;
 }

@@ -3,7 +3,7 @@ use Rattle.tab_outside.specs.Pairs.{Extends}
 use Rattle.tab_outside.proofs.Moments.{extends_none}
 use Rattle.tab_journal.specs.Areas.{Spells}
 use Rattle.tab_journal.specs.Stores.{area_a, area_b}
-use Rattle.tab_journal.specs.Keeping.{KeptView, Means, IsSound}
+use Rattle.tab_journal.specs.Keeping.{KeptView, StandsWith, Means, IsSound}
 use Rattle.tab_journal.specs.KeptCauses.{KeptCauses}
 use Rattle.tab_journal.proofs.Running.{left_alone}
 use Rattle.tab_journal.proofs.Keeping.{running_now, step_images, failed_now}
@@ -19,13 +19,13 @@ returns-in-Ok-append-clause-sound g c honest =
     let sense = g.C.Content.sense in
     let sound = subst (λ v. IsSound w sense v) (sym c.self.view_is) (c.requires.sound honest) in
     let running = subst (λ v. v.failed ≡ false) (sym c.self.view_is) c.requires.running in
-    let fits = subst (λ v. sense.fits v.held c.args.step) (sym c.self.view_is) c.requires.fits in
+    let fits = subst (λ v. sense.fits (sense.tells v.held) c.args.step) (sym c.self.view_is) c.requires.fits in
     let runs = sound.runs running in
     let on = steps_on sense _ _ c.args.step runs.frames c.in-Ok.prepared g.met.C.Content.goes_on sound.kind c.in-Ok.ensures fits runs.stand in
-    sound_running w sense _ (c.append.ensures.same.kind ∙ sound.kind) (λ e. sound.clear running) (record {
+    sound_running w sense _ (c.append.ensures.same.kind ∙ sound.kind) (record {
       frames = runs.frames ++ c.in-Ok.prepared ∷ [];
       has = c.in-Ok-append.ensures.ok honest runs.frames runs.has on.0;
-      stand = subst (λ x. sense.stands (runs.frames ++ c.in-Ok.prepared ∷ []) x) (sym c.apply.ensures) on.1;
+      stand = subst (λ x. sense.stands (runs.frames ++ c.in-Ok.prepared ∷ []) x) (sym c.apply.ensures.told) on.1;
     })
 
 pub returns-in-Ok-append-clause-images : goal.returns-in-Ok-append-clause-images
@@ -34,10 +34,10 @@ returns-in-Ok-append-clause-images g c honest =
     let sense = g.C.Content.sense in
     let sound = subst (λ v. IsSound w sense v) (sym c.self.view_is) (c.requires.sound honest) in
     let running = subst (λ v. v.failed ≡ false) (sym c.self.view_is) c.requires.running in
-    let fits = subst (λ v. sense.fits v.held c.args.step) (sym c.self.view_is) c.requires.fits in
+    let fits = subst (λ v. sense.fits (sense.tells v.held) c.args.step) (sym c.self.view_is) c.requires.fits in
     let runs = sound.runs running in
     let on = steps_on sense _ _ c.args.step runs.frames c.in-Ok.prepared g.met.C.Content.goes_on sound.kind c.in-Ok.ensures fits runs.stand in
-    subst (λ v. Extends w (Spells v.store.kind v.store.number) (λ frames. sense.stands frames (sense.stepped v.held c.args.step)) (area_a v.store) (area_b v.store) (area_a c.append.new.self) (area_b c.append.new.self)) c.self.view_is
+    subst (λ v. Extends w (Spells v.store.kind v.store.number) (StandsWith sense v.held c.args.step) (area_a v.store) (area_b v.store) (area_a c.append.new.self) (area_b c.append.new.self)) c.self.view_is
     (step_images w sense _ _ _ _ _ _ _ c.args.step (runs.frames ++ c.in-Ok.prepared ∷ []) on.1 (c.append.ensures.images honest runs.frames runs.has on.0))
 
 pub returns-clause-sound : goal.returns-clause-sound
@@ -46,7 +46,7 @@ returns-clause-sound g c honest =
     let sense = g.C.Content.sense in
     let sound = subst (λ v. IsSound w sense v) (sym c.self.view_is) (c.requires.sound honest) in
     let running = subst (λ v. v.failed ≡ false) (sym c.self.view_is) c.requires.running in
-    let fits = subst (λ v. sense.fits v.held c.args.step) (sym c.self.view_is) c.requires.fits in
+    let fits = subst (λ v. sense.fits (sense.tells v.held) c.args.step) (sym c.self.view_is) c.requires.fits in
     let runs = sound.runs running in
     let on = steps_on sense _ _ c.args.step runs.frames c.in-Ok.prepared g.met.C.Content.goes_on sound.kind c.in-Ok.ensures fits runs.stand in
     let extends = step_images w sense _ _ _ _ _ _ _ c.args.step (runs.frames ++ c.in-Ok.prepared ∷ []) on.1 (c.append.ensures.images honest runs.frames runs.has on.0) in
@@ -60,10 +60,10 @@ returns-clause-images g c honest =
     let sense = g.C.Content.sense in
     let sound = subst (λ v. IsSound w sense v) (sym c.self.view_is) (c.requires.sound honest) in
     let running = subst (λ v. v.failed ≡ false) (sym c.self.view_is) c.requires.running in
-    let fits = subst (λ v. sense.fits v.held c.args.step) (sym c.self.view_is) c.requires.fits in
+    let fits = subst (λ v. sense.fits (sense.tells v.held) c.args.step) (sym c.self.view_is) c.requires.fits in
     let runs = sound.runs running in
     let on = steps_on sense _ _ c.args.step runs.frames c.in-Ok.prepared g.met.C.Content.goes_on sound.kind c.in-Ok.ensures fits runs.stand in
-    subst (λ v. Extends w (Spells v.store.kind v.store.number) (λ frames. sense.stands frames (sense.stepped v.held c.args.step)) (area_a v.store) (area_b v.store) (area_a c.append.new.self) (area_b c.append.new.self)) c.self.view_is
+    subst (λ v. Extends w (Spells v.store.kind v.store.number) (StandsWith sense v.held c.args.step) (area_a v.store) (area_b v.store) (area_a c.append.new.self) (area_b c.append.new.self)) c.self.view_is
     (step_images w sense _ _ _ _ _ _ _ c.args.step (runs.frames ++ c.in-Ok.prepared ∷ []) on.1 (c.append.ensures.images honest runs.frames runs.has on.0))
 
 pub returns-clause-causes : goal.returns-clause-causes
