@@ -1,0 +1,13 @@
+//! The names of tables and the map of ranges, each in a store of its own.
+#![tactic(auto)]
+
+mod checkpoint;
+mod content;
+mod listing;
+mod rows;
+mod steps;
+mod tables;
+
+pub use content::NamesContent;
+pub use rows::TableRow;
+pub use steps::NamesStep;
