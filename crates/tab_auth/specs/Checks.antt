@@ -71,9 +71,13 @@ claim_refusal account key signed now None = Some Missing
 claim_refusal account key signed now (Some claim) =
     if is_known account claim.account signed.path then dated_refusal account key signed now claim.signature signed.date else Some UnknownAccount
 
+-- why a request of an account without a key is refused: for its path alone
+abbrev pub open_refusal : List ℕ → List ℕ → Option AuthRefused
+open_refusal account path = if names_account account path then None else Some UnknownAccount
+
 -- why a request of an account without a key, or with one, is refused
 abbrev pub account_refusal : List ℕ → Option (List ℕ) → Signed → ℕ → Option AuthRefused
-account_refusal account None signed now = if names_account account signed.path then None else Some UnknownAccount
+account_refusal account None signed now = open_refusal account signed.path
 account_refusal account (Some key) signed now =
     claim_refusal account key signed now (option_and_then claim_of signed.authorization)
 

@@ -4,7 +4,7 @@
 ghost use Rattle.std.specs.Prelude.{◌≡◌, ◌≢◌, ◌↔◌, Some, None, MatchResult, IfOk, IfSome, IfNone, string_bytes, option_map, pos, negsuc, ◌≤ℤ◌};
 ghost use Rattle.httpdate.specs.Date.{parse_secs};
 ghost use Rattle.tab_auth.specs.Signatures.{signature, resource_of};
-ghost use Rattle.tab_auth.specs.Checks.{refusal, account_refusal, dated_refusal, date_refusal, age_refusal, unix_second, IsReason};
+ghost use Rattle.tab_auth.specs.Checks.{refusal, open_refusal, account_refusal, dated_refusal, date_refusal, age_refusal, unix_second, IsReason};
 ghost use Rattle.tab_auth.specs.SignedRequests.{IsSigned};
 
 use crate::Keys;
@@ -62,13 +62,21 @@ pub fn check(alloc: Global, keys: &Keys, signed: &Signed, now: u64) -> Result<()
     let account = keys.account.as_str();
     match &keys.key {
         Some(key) => check_signed(alloc, account, key.as_slice(), signed, now),
-        None => {
-            if names_account(account, signed.path.as_str()) {
-                Ok(())
-            } else {
-                Err(AuthRefused::UnknownAccount)
-            }
-        }
+        None => match open_refusal(account, signed.path.as_str()) {
+            None => Ok(()),
+            Some(why) => Err(why),
+        },
+    }
+}
+
+/// Why a request to an account without a key is refused, which is for its path alone.
+pub fn open_refusal(account: &str, path: &str) -> Option<AuthRefused>
+    ensures { result ≡ open_refusal account.now path.now }
+{
+    if names_account(account, path) {
+        None
+    } else {
+        Some(AuthRefused::UnknownAccount)
     }
 }
 

@@ -6,6 +6,6 @@ mod claims;
 mod digests;
 mod signatures;
 
-pub use checks::{AuthRefused, Signed, check};
+pub use checks::{AuthRefused, Signed, check, open_refusal};
 pub use digests::hmac;
 pub use signatures::{Keys, sign_lite};

@@ -89,12 +89,23 @@ impl Properties {
 }
 
 /// The entity that a body gives.
-#[tactic(auto, unfolding(crate::specs::Bodies::entity_body))]
 pub fn read_entity(alloc: Global, bytes: &[u8]) -> Result<BodyEntity, JsonRefused>
     ensures { Gives JsonRefused.Memory (λ body. body) result (entity_body bytes.now) }
 {
     let mut scratch = Scratch::new(alloc);
-    match read_lent(alloc, bytes, &mut scratch) {
+    read_entity_with(alloc, bytes, &mut scratch)
+}
+
+/// The same, by way of room that is kept from body to body: what it has beforehand does not count.
+#[tactic(auto, unfolding(crate::specs::Bodies::entity_body))]
+pub fn read_entity_with(
+    alloc: Global,
+    bytes: &[u8],
+    scratch: &mut Scratch,
+) -> Result<BodyEntity, JsonRefused>
+    ensures { Gives JsonRefused.Memory (λ body. body) result (entity_body bytes.now) }
+{
+    match read_lent(alloc, bytes, scratch) {
         Ok(Some(members)) => read_members(alloc, &members),
         Ok(None) => read_tree(alloc, bytes),
         Err(_) => Err(JsonRefused::Memory),

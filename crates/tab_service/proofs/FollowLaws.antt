@@ -1,18 +1,21 @@
 -- What the headers of a continuation say is what the query that hands them back asks for.
 use Rattle.std.proofs.Common.{◌≡◌, ℕ, List, [], ◌∷◌, ◌++◌, cond, Option, Some, None, Result, Ok, Err, refl, ap, ◌∙◌, codes, arith, bytes_eq, append_assoc, append-nil}
+use Rattle.std.specs.Option.{ok_or}
 use Rattle.form_urlencoded.specs.Form.{raw_pairs}
 use Rattle.tab_keys.specs.KeyTexts.{IsKeyText}
 use Rattle.tab_keys.specs.TableNames.{name_refusal, IsTableName}
 use Rattle.tab_keys.specs.declared.table_names.NameRefused.{NameRefused}
 use Rattle.tab_keys.specs.Results.{◌>>=◌}
-use Rattle.tab_page.specs.Queries.{decoded, values, single, read_options}
+use Rattle.tab_page.specs.Queries.{decoded, values, single, option_at, read_options}
 use Rattle.tab_page.specs.Tokens.{token_text, read_token}
 use Rattle.tab_page.specs.Continuations.{joined, next_query}
 use Rattle.tab_page.specs.declared.pages.Options.{Options}
+use Rattle.tab_page.specs.declared.queries.OptionRefused.{OptionRefused}
+use Rattle.tab_page.specs.declared.queries.OptionRefused.TheVariants.{BadToken}
 use Rattle.tab_page.proofs.ContinuationLaws.{is_safe, pairs_joined, values-append, decoded_safe, token_safe, one_pair, decoded_token, token_read, read_behind}
 use Rattle.tab_service.specs.Laws.{followed_by, IsFollowedByPage, IsFollowedByList}
 use Rattle.tab_service.specs.Replies.{continuation}
-use Rattle.tab_service.specs.TableQueries.{options_result, sole_option, count_of, token_name, name_in_token, after_of, without_filter, table_window}
+use Rattle.tab_service.specs.TableQueries.{options_result, sole_option, count_of, token_name, after_of, without_filter, table_window}
 use Rattle.tab_service.proofs.NameLaws.{name_is_key}
 use Rattle.tab_service.specs.declared.refusals.Refusal.{Refusal}
 use Rattle.tab_service.specs.declared.requests.table_queries.TableWindow.{TableWindow}
@@ -59,15 +62,18 @@ Value = Result (Option (List ℕ)) Refusal
 abbrev Window : Type 0
 Window = Result TableWindow Refusal
 
+abbrev Filters : Type 0
+Filters = Result (Option (List ℕ)) OptionRefused
+
 -- what is asked, from the three options
-abbrev asked_of : Value → Value → List (List ℕ) → Window
+abbrev asked_of : Value → Value → Filters → Window
 asked_of t k filters =
     t >>= λ top. (k >>= λ token. (count_of top >>= λ count. (after_of token >>= λ after. without_filter filters (record { after = after; top = count }))))
 
-abbrev window_from : Result ℕ Refusal → Value → List (List ℕ) → Window
+abbrev window_from : Result ℕ Refusal → Value → Filters → Window
 window_from count after filters = count >>= λ c. (after >>= λ a. without_filter filters (record { after = a; top = c }))
 
-record HasAfter (count : Result ℕ Refusal) (after : Value) (filters : List (List ℕ)) (window : TableWindow) : Type 0 where
+record HasAfter (count : Result ℕ Refusal) (after : Value) (filters : Filters) (window : TableWindow) : Type 0 where
   after_is : after ≡ Ok window.after
   other : (next : Option (List ℕ)) → window_from count (Ok next) filters ≡ Ok (record window { after = next })
 
@@ -75,35 +81,36 @@ abbrev window_in : TableWindow → Window → TableWindow
 window_in none (Ok window) = window
 window_in none (Err why) = none
 
-has_after : (count : Result ℕ Refusal) (after : Value) (filters : List (List ℕ)) (window : TableWindow) → window_from count after filters ≡ Ok window → HasAfter count after filters window
+has_after : (count : Result ℕ Refusal) (after : Value) (filters : Filters) (window : TableWindow) → window_from count after filters ≡ Ok window → HasAfter count after filters window
 has_after (Err why) after filters window h = cc h
 has_after (Ok c) (Err why) filters window h = cc h
-has_after (Ok c) (Ok a) [] window h =
+has_after (Ok c) (Ok a) (Ok None) window h =
     let e = ap (window_in window) h in
     record {
       after_is = ap (λ (w : TableWindow). Ok w.after) e;
       other = λ next. ap (λ (w : TableWindow). Ok (record w { after = next })) e;
     }
-has_after (Ok c) (Ok a) (filter ∷ more) window h = cc h
+has_after (Ok c) (Ok a) (Ok (Some filter)) window h = cc h
+has_after (Ok c) (Ok a) (Err doubled) window h = cc h
 
-no_name : (found : Option (List ℕ)) → ◌≡◌ {A = Value} (name_in_token found) (Ok None) → ⊥
-no_name None h = cc h
-no_name (Some name) h = by_name (name_refusal name) h
-  where
-    by_name : (why : Option NameRefused) → ◌≡◌ {A = Value} (token_name name why) (Ok None) → ⊥
-    by_name None e = cc e
-    by_name (Some why) e = cc e
+no_name : (name : List ℕ) (why : Option NameRefused) → ◌≡◌ {A = Value} (token_name name why) (Ok None) → ⊥
+no_name name None h = cc h
+no_name name (Some why) h = cc h
 
 no_token : (token : Option (List ℕ)) → after_of token ≡ Ok None → token ≡ None
 no_token None h = refl
-no_token (Some text) h = absurd (no_name (read_token text) h)
+no_token (Some text) h = absurd (by_key (read_token text) h)
+  where
+    by_key : (found : Option (List ℕ)) → ◌≡◌ {A = Value} (options_result (ok_or found BadToken) >>= λ name. token_name name (name_refusal name)) (Ok None) → ⊥
+    by_key None e = cc e
+    by_key (Some name) e = no_name name (name_refusal name) e
 
 -- a query that names no start has no token, and may have one
-record NamesNone (t k : Value) (filters : List (List ℕ)) (window : TableWindow) : Type 0 where
+record NamesNone (t k : Value) (filters : Filters) (window : TableWindow) : Type 0 where
   token : k ≡ Ok None
   other : (text name : List ℕ) → after_of (Some text) ≡ Ok (Some name) → asked_of t (Ok (Some text)) filters ≡ Ok (record window { after = Some name })
 
-names_none : (t k : Value) (filters : List (List ℕ)) (window : TableWindow) → asked_of t k filters ≡ Ok window → window.after ≡ None → NamesNone t k filters window
+names_none : (t k : Value) (filters : Filters) (window : TableWindow) → asked_of t k filters ≡ Ok window → window.after ≡ None → NamesNone t k filters window
 names_none (Err why) k filters window h none = cc h
 names_none (Ok t) (Err why) filters window h none = cc h
 names_none (Ok t) (Ok k) filters window h none =
@@ -123,10 +130,10 @@ name_read : (name : List ℕ) → IsKeyText name → name_refusal name ≡ None 
 name_read name key allowed = rw (token_read name key, allowed) refl
 
 pub followed_by_list : (query next : List ℕ) (window : TableWindow) → IsTableName next → IsFollowedByList query window next
-unfolding table_window sole_option
+unfolding table_window sole_option option_at
 followed_by_list query next window is_name h none =
     let at = λ (word : List ℕ). options_result (single (values word (raw_pairs query))) in
-    let absent = names_none (at (codes "$top")) (at (codes "NextTableName")) (values (codes "$filter") (raw_pairs query)) window h none in
+    let absent = names_none (at (codes "$top")) (at (codes "NextTableName")) (single (values (codes "$filter") (raw_pairs query))) window h none in
     let token = name_values (codes "NextTableName") query next ∙ ap (λ (l : List (List ℕ)). l ++ token_text next ∷ []) (no_values (values (codes "NextTableName") (raw_pairs query)) absent.token) in
     let top = name_values (codes "$top") query next ∙ append-nil (values (codes "$top") (raw_pairs query)) in
     let filter = name_values (codes "$filter") query next ∙ append-nil (values (codes "$filter") (raw_pairs query)) in

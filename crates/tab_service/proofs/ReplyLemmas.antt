@@ -46,7 +46,3 @@ bodiless_in_turn status last more h1 h2 h3 h4 p1 p2 p3 p4 =
 -- words with nothing in them
 pub plain_words : (text : List ℕ) → text ++ [] ++ [] ≡ text
 plain_words text = append-nil (text ++ []) ∙ append-nil text
-
--- three more words behind others
-pub behind_words : (front a b c : List ℕ) → front ++ (a ++ b ++ c) ≡ front ++ a ++ b ++ c
-behind_words front a b c = simp append_assoc

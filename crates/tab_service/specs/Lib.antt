@@ -10,6 +10,7 @@ pub mod Refusals
 pub mod Conditions
 pub mod TableQueries
 pub mod Requests
+pub mod FormLists
 pub mod Forms
 pub mod Batches
 pub mod Decisions

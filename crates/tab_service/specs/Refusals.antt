@@ -21,6 +21,9 @@ use Rattle.tab_batch.specs.declared.refusals.BatchRefused.TheVariants as batch
 use Rattle.tab_service.specs.Causes.{Cause}
 use Rattle.tab_service.specs.Causes as cause
 use Rattle.tab_service.specs.Replies.{error_text, error_text_at}
+use Rattle.tab_service.specs.declared.refusals.Refused.{Refused}
+use Rattle.tab_service.specs.declared.refusals.Refused.TheVariants.{Why}
+use Rattle.tab_service.specs.declared.refusals.Refused.TheVariants as refused
 use Rattle.tab_service.specs.declared.refusals.Refusal.{Refusal}
 use Rattle.tab_service.specs.declared.refusals.Refusal.TheVariants.{Auth, Path, Name, Key, Method, Format, Options, FilterOfTables, Condition, NoCondition, Body, NoTableName, KeysMissing, Entity, NoBoundary, Multipart, Group}
 
@@ -50,6 +53,14 @@ option_cause option.BadTop = cause.bad_top
 option_cause option.BadToken = cause.bad_token
 option_cause (option.Filter why) = filter_cause why
 option_cause option.Memory = cause.no_memory
+
+-- what a request comes to where its options are refused
+abbrev pub refused_option : OptionRefused → Refused Refusal
+refused_option option.BadOption = Why (Options option.BadOption)
+refused_option option.BadTop = Why (Options option.BadTop)
+refused_option option.BadToken = Why (Options option.BadToken)
+refused_option (option.Filter why) = Why (Options (option.Filter why))
+refused_option option.Memory = refused.Memory
 
 unfoldable pub body_cause : JsonRefused → Cause
 body_cause json.NotJson = cause.no_object

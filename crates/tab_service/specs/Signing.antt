@@ -2,12 +2,11 @@
 use Rattle.std.specs.Prelude.{ℕ, List, [], ◌∷◌, Option, Some, None, option_and_then, if◌then◌else◌, codes}
 use Rattle.std.specs.Option.{option_or}
 use Rattle.std.specs.List.{list_any}
-use Rattle.form_urlencoded.specs.Form.{raw_pairs}
 use Rattle.tab_auth.specs.declared.checks.Signed.{Signed}
 use Rattle.tab_http.specs.Headers.{is_named, first_value}
 use Rattle.tab_http.specs.declared.messages.Header.{Header}
 use Rattle.tab_http.specs.declared.messages.Message.{Message}
-use Rattle.tab_page.specs.Queries.{values}
+use Rattle.tab_page.specs.Queries.{first_at}
 use Rattle.tab_service.specs.Targets.{path_of, query_of, text_of}
 
 -- the value of the one header of that name, and none where there are more
@@ -20,13 +19,9 @@ sole_value name (header ∷ headers) =
 abbrev pub date_value : List Header → Option (List ℕ)
 date_value headers = option_or (first_value (codes "x-ms-date") headers) (first_value (codes "date") headers)
 
-abbrev pub first_of : List (List ℕ) → Option (List ℕ)
-first_of [] = None
-first_of (value ∷ later) = Some value
-
 -- the first value of `comp` in a query
 unfoldable pub comp_of : List ℕ → Option (List ℕ)
-comp_of query = first_of (values (codes "comp") (raw_pairs query))
+comp_of query = first_at (codes "comp") query
 
 -- what is signed of these headers, this path and this query: headers that are no texts count as absent
 unfoldable pub signed_by : List Header → List ℕ → List ℕ → Signed
@@ -40,7 +35,3 @@ signed_by headers path query = record {
 -- what is signed, and how
 unfoldable pub signed_of : Message → Signed
 signed_of message = signed_by message.headers (path_of message.target) (query_of message.target)
-
--- the path alone
-abbrev pub unsigned : List ℕ → Signed
-unsigned path = record { authorization = None; date = None; path = path; comp = None }

@@ -1,11 +1,9 @@
 -- What a query asks of the list of tables.
-use Rattle.std.specs.Prelude.{ℕ, List, [], ◌∷◌, Option, Some, None, Result, Ok, Err, codes}
-use Rattle.form_urlencoded.specs.Form.{raw_pairs}
+use Rattle.std.specs.Prelude.{ℕ, List, Option, Some, None, Result, Ok, Err, codes}
 use Rattle.tab_keys.specs.Results.{◌>>=◌}
 use Rattle.tab_keys.specs.TableNames.{name_refusal}
 use Rattle.tab_keys.specs.declared.table_names.NameRefused.{NameRefused}
-use Rattle.tab_page.specs.Queries.{values, single, top_of}
-use Rattle.tab_page.specs.Tokens.{read_token}
+use Rattle.tab_page.specs.Queries.{option_at, top_of, token_of}
 use Rattle.tab_page.specs.declared.queries.OptionRefused.{OptionRefused}
 use Rattle.tab_page.specs.declared.queries.OptionRefused.TheVariants as option
 use Rattle.tab_service.specs.declared.refusals.Refusal.{Refusal}
@@ -19,7 +17,7 @@ options_result (Err why) = Err (Options why)
 
 -- the value of an option, which stands once at the most
 unfoldable pub sole_option : List ℕ → List ℕ → Result (Option (List ℕ)) Refusal
-sole_option word query = options_result (single (values word (raw_pairs query)))
+sole_option word query = options_result (option_at word query)
 
 -- how many tables
 unfoldable pub count_of : Option (List ℕ) → Result ℕ Refusal
@@ -29,19 +27,16 @@ abbrev pub token_name : List ℕ → Option NameRefused → Result (Option (List
 token_name name None = Ok (Some name)
 token_name name (Some why) = Err (Options option.BadToken)
 
--- a token of a table's name; one of another text is none
-abbrev pub name_in_token : Option (List ℕ) → Result (Option (List ℕ)) Refusal
-name_in_token None = Err (Options option.BadToken)
-name_in_token (Some name) = token_name name (name_refusal name)
-
--- the table that the list begins with
+-- the table that the list begins with, by its token; a token of another text is none
 abbrev pub after_of : Option (List ℕ) → Result (Option (List ℕ)) Refusal
 after_of None = Ok None
-after_of (Some token) = name_in_token (read_token token)
+after_of (Some token) = options_result (token_of token) >>= λ name. token_name name (name_refusal name)
 
-abbrev pub without_filter : List (List ℕ) → TableWindow → Result TableWindow Refusal
-without_filter [] window = Ok window
-without_filter (filter ∷ more) window = Err FilterOfTables
+-- no filter is taken, however often it stands there
+abbrev pub without_filter : Result (Option (List ℕ)) OptionRefused → TableWindow → Result TableWindow Refusal
+without_filter (Ok None) window = Ok window
+without_filter (Ok (Some filter)) window = Err FilterOfTables
+without_filter (Err doubled) window = Err FilterOfTables
 
 -- what is asked, or the first refusal: a doubled option, `$top`, the token, and last a filter, of which none is taken
 unfoldable pub table_window : List ℕ → Result TableWindow Refusal
@@ -50,4 +45,4 @@ table_window query =
     sole_option (codes "NextTableName") query >>= λ token.
     count_of top >>= λ count.
     after_of token >>= λ after.
-    without_filter (values (codes "$filter") (raw_pairs query)) (record { after = after; top = count })
+    without_filter (option_at (codes "$filter") query) (record { after = after; top = count })

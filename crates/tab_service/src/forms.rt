@@ -5,6 +5,7 @@ ghost use Rattle.tab_service.specs.Requests.{form_of, plain_part};
 use crate::copies::owned;
 use std::alloc::Global;
 use std::marker::Model;
+use std::slice;
 use tab_edm::TextValue;
 use tab_history::Ask;
 use tab_json::JsonForm;
@@ -38,16 +39,24 @@ pub struct PartForm {
 /// The forms of the parts of a request, in their order.
 #[derive(Debug, Drop)]
 pub struct PartForms {
-    forms: Vec<PartForm>,
+    forms: FormList,
+}
+
+/// Forms of parts: one, which takes no memory, or any number.
+#[derive(Debug, Drop)]
+enum FormList {
+    One(PartForm),
+    Many(Vec<PartForm>),
 }
 
 impl Model for PartForms {
-    ghost use Rattle.std.specs.Prelude.{List, vec_items};
+    ghost use Rattle.std.specs.Prelude.{List};
+    ghost use Rattle.tab_service.specs.FormLists.{forms_in};
     ghost use Rattle.tab_service.specs.declared.forms.PartForm.{PartForm};
 
     ghost Value = { List PartForm };
 
-    ghost view = { λ parts. parts.forms.items };
+    ghost view = { λ parts. forms_in parts.forms };
 }
 
 impl PartForms {
@@ -55,23 +64,28 @@ impl PartForms {
     pub fn new(forms: Vec<PartForm>) -> PartForms
         ensures { result ≡ forms.items }
     {
-        PartForms { forms }
+        PartForms {
+            forms: FormList::Many(forms),
+        }
     }
 
-    /// The form of the only part.
-    pub fn of(alloc: Global, form: PartForm) -> Result<PartForms, Memory>
-        ensures { IfOk result (λ forms. forms ≡ form ∷ []) }
+    /// The form of the only part. It takes no memory.
+    pub fn of(form: PartForm) -> PartForms
+        ensures { result ≡ form ∷ [] }
     {
-        let mut forms = Vec::new(alloc);
-        forms.push(form)?;
-        Ok(PartForms { forms })
+        PartForms {
+            forms: FormList::One(form),
+        }
     }
 
     /// The forms, one for each part.
     pub fn as_slice(&self) -> &[PartForm]
         ensures { result.now ≡ self.now }
     {
-        self.forms.as_slice()
+        match &self.forms {
+            FormList::One(form) => slice::from_ref(form),
+            FormList::Many(forms) => forms.as_slice(),
+        }
     }
 }
 
@@ -102,7 +116,7 @@ pub(crate) fn form_of(
         account: owned(alloc, account)?,
         batch: false,
         json: JsonForm { minimal, select },
-        parts: PartForms::of(alloc, part)?,
+        parts: PartForms::of(part),
     })
 }
 

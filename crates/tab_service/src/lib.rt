@@ -21,7 +21,7 @@ pub use replies::denials::refusal_reply;
 pub use replies::ready::{http_fault, memory_reply};
 pub use replies::reply_bytes;
 pub use requests::decide::{
-    Asked, Decided, decide, messages_have_one_decision, requests_are_in_form,
+    Asked, Decided, decide, decide_with, messages_have_one_decision, requests_are_in_form,
 };
 pub use requests::table_queries::TableWindow;
 pub use requests::targets::Resource;

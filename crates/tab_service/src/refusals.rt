@@ -77,6 +77,20 @@ impl From<Refusal> for Refused<Refusal> {
     }
 }
 
+impl From<OptionRefused> for Refused<Refusal> {
+    ghost use Rattle.std.specs.Prelude.{◌≡◌};
+    ghost use Rattle.tab_service.specs.Refusals.{refused_option};
+
+    ghost from_gives = { λ why refused. refused ≡ refused_option why };
+
+    fn from(why: OptionRefused) -> Refused<Refusal> {
+        match why {
+            OptionRefused::Memory => Refused::Memory,
+            _ => Refused::Why(Refusal::Options(why)),
+        }
+    }
+}
+
 impl<W: Drop> From<Memory> for Refused<W> {
     ghost use Rattle.std.specs.Prelude.{◌≡◌};
     ghost use Rattle.tab_service.specs.declared.refusals.Refused.TheVariants as refused;

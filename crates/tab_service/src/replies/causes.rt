@@ -28,6 +28,21 @@ pub struct Cause<'a> {
     pub after: &'a str,
 }
 
+/// Gives a macro the status, the code and the text of want of memory, which the reply that stands ready has too.
+macro_rules! out_of_memory {
+    ($form:ident) => {
+        $form!(507, "OutOfMemory", "No memory was found.")
+    };
+}
+
+pub(crate) use out_of_memory;
+
+macro_rules! row_of {
+    ($status:literal, $code:literal, $text:literal) => {
+        row($status, $code, $text)
+    };
+}
+
 // ---- the table
 
 /// Why a request is refused before the store is asked.
@@ -266,7 +281,7 @@ pub fn numbers_spent() -> Cause<'static>
 fn no_memory() -> Cause<'static>
     ensures { cause_view result ≡ cause.no_memory }
 {
-    row(507, "OutOfMemory", "No memory was found.")
+    out_of_memory!(row_of)
 }
 
 /// A signature that is not taken.

@@ -128,16 +128,15 @@ fn number_reply(
 fn damaged_reply(alloc: Global, disk: u64, at: u64) -> Result<Vec<u8>, Memory>
     ensures { IfOk result (λ bytes. bytes.items ≡ error_text (cause.disk_damaged disk at)) }
 {
-    let disk = disk.to_string(alloc)?;
-    let at = damaged_at(alloc, at)?;
-    let why = named(500, "StoreDamaged", "Disk ", disk.as_str(), at.as_str());
+    let text = damaged_text(alloc, disk, at)?;
+    let why = named(500, "StoreDamaged", "", "", text.as_str());
     cause_reply(alloc, None, &why)
 }
 
-fn damaged_at(alloc: Global, at: u64) -> Result<String, Memory>
-    ensures { IfOk result (λ text. string_bytes text ≡ codes " is damaged at " ++ decimal at ++ codes ".") }
+fn damaged_text(alloc: Global, disk: u64, at: u64) -> Result<String, Memory>
+    ensures { IfOk result (λ text. string_bytes text ≡ (cause.disk_damaged disk at).text) }
 {
-    Ok(format!(in alloc; " is damaged at {at}.")?)
+    Ok(format!(in alloc; "Disk {disk} is damaged at {at}.")?)
 }
 
 /// The index of an operation, where it is one of a batch.

@@ -6,6 +6,7 @@ ghost use Rattle.tab_edm.specs.declared.TheConstants.{GREATEST};
 ghost use Rattle.tab_service.specs.Replies.{header_line, status_line, head_text, version_header, reply_with_body, json_type, bodiless_reply};
 
 use http::StatusCode;
+use itoa::Buffer;
 use std::alloc::{AllocError, Global};
 use tab_edm::etag_text;
 use tab_keys::Memory;
@@ -82,8 +83,8 @@ fn head_text(
         ∷ (map (λ header. (header.0.now, header.1.now)) more.now ++ version_header ∷ []))) }
 {
     let mut head = status_line(alloc, HEAD_ROOM.saturating_add(length), status)?;
-    let length = length.to_string(alloc)?;
-    push_header(&mut head, "Content-Length", length.as_str())?;
+    let mut digits = Buffer::new();
+    push_header(&mut head, "Content-Length", digits.format(length))?;
     push_header(&mut head, "Content-Type", kind)?;
     push_headers(&mut head, more)?;
     push_header(&mut head, "x-ms-version", VERSION)?;

@@ -6,6 +6,7 @@ ghost use Rattle.tab_service.specs.Causes as cause;
 ghost use Rattle.tab_service.specs.Replies.{error_text, memory_fault};
 ghost use Rattle.tab_service.specs.Refusals.{http_fault};
 
+use super::causes::out_of_memory;
 use tab_http::HttpRefused;
 
 const NOT_WHOLE: &str =
@@ -20,9 +21,22 @@ const NO_LENGTH: &str =
 const BODY_TOO_LONG: &str =
     "HTTP/1.1 413 Payload Too Large\r\nContent-Length: 122\r\nContent-Type: application/json\r\nx-ms-version: 2019-02-02\r\n\r\n{\"odata.error\":{\"code\":\"RequestBodyTooLarge\",\"message\":{\"lang\":\"en-US\",\"value\":\"The body is longer than 4194304 bytes.\"}}}";
 
+macro_rules! memory_reply {
+    ($status:literal, $code:literal, $text:literal) => {
+        concat!(
+            "HTTP/1.1 ",
+            $status,
+            " Insufficient Storage\r\nContent-Length: 96\r\nContent-Type: application/json\r\nx-ms-version: 2019-02-02\r\n\r\n{\"odata.error\":{\"code\":\"",
+            $code,
+            "\",\"message\":{\"lang\":\"en-US\",\"value\":\"",
+            $text,
+            "\"}}}"
+        )
+    };
+}
+
 /// The reply to any request for which no memory was found.
-const MEMORY_REPLY: &str =
-    "HTTP/1.1 507 Insufficient Storage\r\nContent-Length: 96\r\nContent-Type: application/json\r\nx-ms-version: 2019-02-02\r\n\r\n{\"odata.error\":{\"code\":\"OutOfMemory\",\"message\":{\"lang\":\"en-US\",\"value\":\"No memory was found.\"}}}";
+const MEMORY_REPLY: &str = out_of_memory!(memory_reply);
 
 /// The reply to bytes that are no message, where one is due. It takes no memory.
 #[tactic(auto, unfolding(crate::specs::Refusals::http_fault))]

@@ -16,7 +16,7 @@ use std::marker::Model;
 use tab_batch::{BatchRefused, boundary_of, read_batch};
 use tab_history::Ask;
 use tab_http::{Message, first_value};
-use tab_json::JsonForm;
+use tab_json::{JsonForm, Scratch};
 use tab_keys::Memory;
 use tab_ops::{Group, GroupRefused, Item, MOST_ITEMS};
 use tab_page::Select;
@@ -28,6 +28,7 @@ pub fn batch_of(
     account: &str,
     minimal: bool,
     message: &Message,
+    scratch: &mut Scratch,
 ) -> Result<Request, Refused<PartRefusal>>
     ensures { Answers (IsBatchOf account.now minimal message.now) result }
 {
@@ -38,7 +39,7 @@ pub fn batch_of(
         }));
     };
     match read_batch(alloc, boundary, message.body.as_slice()) {
-        Ok(messages) => batch_from(alloc, account, minimal, &messages),
+        Ok(messages) => batch_from(alloc, account, minimal, &messages, scratch),
         Err(why) => Err(Refused::Why(unread(why)?)),
     }
 }
@@ -70,10 +71,11 @@ fn batch_from(
     account: &str,
     minimal: bool,
     messages: &[Message],
+    scratch: &mut Scratch,
 ) -> Result<Request, Refused<PartRefusal>>
     ensures { Gives result (grouped_request account.now minimal (operations_from 0 account.now messages.now)) }
 {
-    let operations = operations_of(alloc, account, messages)?;
+    let operations = operations_of(alloc, account, messages, scratch)?;
     group_from(alloc, account, minimal, operations)
 }
 
@@ -120,12 +122,13 @@ fn operations_of(
     alloc: Global,
     account: &str,
     messages: &[Message],
+    scratch: &mut Scratch,
 ) -> Result<Operations, Refused<PartRefusal>>
     ensures { Gives result (operations_from 0 account.now messages.now) }
 {
     let mut operations = Operations::new(alloc);
     for (index, message) in messages.iter().enumerate() {
-        match part_of(alloc, account, message) {
+        match part_of(alloc, account, message, scratch) {
             Ok(part) => operations.push(part)?,
             Err(refused) => return Err(of_part(index, refused)),
         }
@@ -148,27 +151,37 @@ fn of_part(index: usize, refused: Refused) -> Refused<PartRefusal>
 
 /// The operation that a part asks for.
 #[tactic(auto, unfolding(crate::specs::Batches::part_of))]
-fn part_of(alloc: Global, account: &str, message: &Message) -> Result<Operation, Refused>
+fn part_of(
+    alloc: Global,
+    account: &str,
+    message: &Message,
+    scratch: &mut Scratch,
+) -> Result<Operation, Refused>
     ensures { Gives result (part_of account.now message.now) }
 {
     let (path, _) = split_target(message.target.as_str());
     let resource = resource_at(alloc, account, path)?;
-    part_on(alloc, message, &resource)
+    part_on(alloc, message, &resource, scratch)
 }
 
 /// The operation that a part asks for on a resource: rows alone are changed in a batch.
-fn part_on(alloc: Global, message: &Message, resource: &Resource) -> Result<Operation, Refused>
+fn part_on(
+    alloc: Global,
+    message: &Message,
+    resource: &Resource,
+    scratch: &mut Scratch,
+) -> Result<Operation, Refused>
     ensures { Gives result (part_on message.now resource.now) }
 {
     match resource {
         Resource::Rows(name) => {
             let name = table_name(alloc, name.as_str())?;
-            change_in_rows(alloc, message, name)
+            change_in_rows(alloc, message, name, scratch)
         }
         Resource::Row(name, pk, rk) => {
             let name = table_name(alloc, name.as_str())?;
             let keys = row_keys(alloc, pk.as_str(), rk.as_str())?;
-            change_of_row(alloc, message, name, keys)
+            change_of_row(alloc, message, name, keys, scratch)
         }
         Resource::Tables | Resource::Table(_) | Resource::Batch => {
             Err(Refused::Why(Refusal::Path))

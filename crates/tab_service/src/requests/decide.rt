@@ -18,16 +18,17 @@ use super::batches::batch_of;
 use super::formats::format_with_body;
 use super::names::{row_keys, table_name};
 use super::rows::{decided_page, decided_row};
-use super::signing::{signed_by, unsigned};
+use super::signing::signed_by;
 use super::tables::{decided_create, decided_drop, decided_tables};
 use super::targets::{Resource, resource_at, split_target};
 use super::writes::{change_in_rows, change_of_row, change_request};
 use crate::replies::denials::refusal_reply;
 use crate::{Refusal, Refused, ReplyBytes, Request};
 use std::alloc::Global;
-use tab_auth::{AuthRefused, Keys, Signed, check};
+use tab_auth::{AuthRefused, Keys, Signed, check, open_refusal};
 use tab_batch::a_batch_has_one_answer;
 use tab_http::Message;
+use tab_json::Scratch;
 use tab_keys::{KeyText, Memory, TableName};
 
 /// What a message comes to.
@@ -55,9 +56,25 @@ pub enum Asked {
 pub fn decide(alloc: Global, message: &Message, keys: &Keys, now: u64) -> Result<Decided, Memory>
     ensures { IfOk result (IsDecision keys.now now message.now) }
 {
-    match asked_of(alloc, message, keys, now) {
+    let mut scratch = Scratch::new(alloc);
+    decide_with(alloc, message, keys, now, &mut scratch)
+}
+
+/// The same, by way of room that is kept from message to message: what it has beforehand does not count.
+pub fn decide_with(
+    alloc: Global,
+    message: &Message,
+    keys: &Keys,
+    now: u64,
+    scratch: &mut Scratch,
+) -> Result<Decided, Memory>
+    ensures { IfOk result (IsDecision keys.now now message.now) }
+{
+    match asked_of(alloc, message, keys, now, scratch) {
         Ok(Asked::One(request)) => Ok(Decided::Go(request)),
-        Ok(Asked::Many { minimal }) => of_batch(alloc, keys.account.as_str(), minimal, message),
+        Ok(Asked::Many { minimal }) => {
+            of_batch(alloc, keys.account.as_str(), minimal, message, scratch)
+        }
         Err(Refused::Why(why)) => refused(alloc, None, &why),
         Err(Refused::Memory) => Err(Memory),
     }
@@ -83,10 +100,11 @@ fn of_batch(
     account: &str,
     minimal: bool,
     message: &Message,
+    scratch: &mut Scratch,
 ) -> Result<Decided, Memory>
     ensures { IfOk result (ComesTo account.now message.now (Ok (Many minimal))) }
 {
-    match batch_of(alloc, account, minimal, message) {
+    match batch_of(alloc, account, minimal, message, scratch) {
         Ok(request) => Ok(Decided::Go(request)),
         Err(Refused::Why(part)) => refused(alloc, part.index, &part.why),
         Err(Refused::Memory) => Err(Memory),
@@ -103,7 +121,13 @@ fn refused(alloc: Global, index: Option<usize>, why: &Refusal) -> Result<Decided
 
 /// What a message asks for, or its first refusal.
 #[tactic(auto, unfolding(crate::specs::Decisions::asked_of, crate::specs::Decisions::decided_at))]
-fn asked_of(alloc: Global, message: &Message, keys: &Keys, now: u64) -> Result<Asked, Refused>
+fn asked_of(
+    alloc: Global,
+    message: &Message,
+    keys: &Keys,
+    now: u64,
+    scratch: &mut Scratch,
+) -> Result<Asked, Refused>
     ensures { Gives result (asked_of keys.now now message.now) }
 {
     let account = keys.account.as_str();
@@ -112,10 +136,10 @@ fn asked_of(alloc: Global, message: &Message, keys: &Keys, now: u64) -> Result<A
         return Err(Refused::Why(Refusal::Auth(why)));
     }
     let resource = resource_at(alloc, account, path)?;
-    decided_on(alloc, account, message, query, &resource)
+    decided_on(alloc, account, message, query, &resource, scratch)
 }
 
-/// Why a message is refused for its signature. An account that is open has none, and nothing is copied for it but the path.
+/// Why a message is refused for its signature. An account that is open has none, and nothing is copied for it.
 #[tactic(auto, unfolding(crate::specs::Signing::signed_of, tab_auth::specs::Checks::refusal))]
 fn denial(
     alloc: Global,
@@ -134,7 +158,7 @@ fn denial(
             let signed = signed_by(alloc, message.headers.as_slice(), path, query)?;
             checked(alloc, keys, &signed, now)
         }
-        None => checked(alloc, keys, &unsigned(alloc, path)?, now),
+        None => Ok(open_refusal(keys.account.as_str(), path)),
     }
 }
 
@@ -162,6 +186,7 @@ fn decided_on(
     message: &Message,
     query: &str,
     resource: &Resource,
+    scratch: &mut Scratch,
 ) -> Result<Asked, Refused>
     requires { query.now ≡ query_of message.now.target }
     ensures { Gives result (decided_on account.now message.now resource.now) }
@@ -174,12 +199,14 @@ fn decided_on(
         }
         Resource::Rows(name) => {
             let name = table_name(alloc, name.as_str())?;
-            Ok(Asked::One(on_rows(alloc, account, message, query, name)?))
+            let request = on_rows(alloc, account, message, query, name, scratch)?;
+            Ok(Asked::One(request))
         }
         Resource::Row(name, pk, rk) => {
             let name = table_name(alloc, name.as_str())?;
             let keys = row_keys(alloc, pk.as_str(), rk.as_str())?;
-            Ok(Asked::One(on_row(alloc, account, message, query, name, keys)?))
+            let request = on_row(alloc, account, message, query, name, keys, scratch)?;
+            Ok(Asked::One(request))
         }
         Resource::Batch => on_batch(alloc, message),
     }
@@ -234,6 +261,7 @@ fn on_rows(
     message: &Message,
     query: &str,
     name: TableName,
+    scratch: &mut Scratch,
 ) -> Result<Request, Refused>
     requires { query.now ≡ query_of message.now.target }
     ensures { Gives result (on_rows account.now message.now name) }
@@ -241,7 +269,7 @@ fn on_rows(
     if message.method.as_str() == "GET" {
         return decided_page(alloc, account, query, message.headers.as_slice(), name);
     }
-    let part = change_in_rows(alloc, message, name)?;
+    let part = change_in_rows(alloc, message, name, scratch)?;
     Ok(change_request(alloc, account, part)?)
 }
 
@@ -254,6 +282,7 @@ fn on_row(
     query: &str,
     name: TableName,
     keys: (KeyText, KeyText),
+    scratch: &mut Scratch,
 ) -> Result<Request, Refused>
     requires { query.now ≡ query_of message.now.target }
     ensures { Gives result (on_row account.now message.now name keys) }
@@ -268,7 +297,7 @@ fn on_row(
             keys,
         );
     }
-    let part = change_of_row(alloc, message, name, keys)?;
+    let part = change_of_row(alloc, message, name, keys, scratch)?;
     Ok(change_request(alloc, account, part)?)
 }
 

@@ -1,18 +1,18 @@
 //! Requests that read: a page of a table, and one row (the Table service's "Query Entities").
 ghost use Rattle.tab_service.specs.Answers.{Gives};
-ghost use Rattle.tab_service.specs.Requests.{query_options, query_select, decided_page, decided_row};
+ghost use Rattle.tab_service.specs.Requests.{decided_page, decided_row};
 
 use super::formats::format_for;
 use crate::forms::{form_of, plain_part};
-use crate::{Prefer, Refusal, Refused, Request};
+use crate::{Prefer, Refused, Request};
 use std::alloc::Global;
 use tab_history::Ask;
 use tab_http::Header;
 use tab_keys::{KeyText, TableName};
-use tab_page::{OptionRefused, Options, Select};
+use tab_page::{Options, Select};
 
 /// The request for a page, or why it is refused.
-#[tactic(auto, unfolding(crate::specs::Requests::decided_page))]
+#[tactic(auto, unfolding(crate::specs::Requests::decided_page, crate::specs::Requests::query_options))]
 pub fn decided_page(
     alloc: Global,
     account: &str,
@@ -23,7 +23,7 @@ pub fn decided_page(
     ensures { Gives result (decided_page account.now query.now headers.now name) }
 {
     let minimal = format_for(alloc, headers)?;
-    let options = query_options(alloc, query)?;
+    let options = Options::read(alloc, query)?;
     let select = options.select.try_copy(alloc)?;
     let part = plain_part(minimal, Prefer::Unsaid);
     let form = form_of(alloc, account, select, part)?;
@@ -34,7 +34,7 @@ pub fn decided_page(
 }
 
 /// The request for one row, or why it is refused.
-#[tactic(auto, unfolding(crate::specs::Requests::decided_row))]
+#[tactic(auto, unfolding(crate::specs::Requests::decided_row, crate::specs::Requests::query_select))]
 pub fn decided_row(
     alloc: Global,
     account: &str,
@@ -46,7 +46,7 @@ pub fn decided_row(
     ensures { Gives result (decided_row account.now query.now headers.now name keys) }
 {
     let minimal = format_for(alloc, headers)?;
-    let select = query_select(alloc, query)?;
+    let select = Select::read(alloc, query)?;
     let part = plain_part(minimal, Prefer::Unsaid);
     let form = form_of(alloc, account, select, part)?;
     let (pk, rk) = keys;
@@ -54,28 +54,4 @@ pub fn decided_row(
         ask: Ask::Get { name, pk, rk },
         form,
     })
-}
-
-/// The options of a query.
-#[tactic(auto, unfolding(crate::specs::Requests::query_options))]
-fn query_options(alloc: Global, query: &str) -> Result<Options, Refused>
-    ensures { Gives result (query_options query.now) }
-{
-    match Options::read(alloc, query) {
-        Ok(options) => Ok(options),
-        Err(OptionRefused::Memory) => Err(Refused::Memory),
-        Err(why) => Err(Refused::Why(Refusal::Options(why))),
-    }
-}
-
-/// The properties that a query asks for.
-#[tactic(auto, unfolding(crate::specs::Requests::query_select))]
-fn query_select(alloc: Global, query: &str) -> Result<Select, Refused>
-    ensures { Gives result (query_select query.now) }
-{
-    match Select::read(alloc, query) {
-        Ok(select) => Ok(select),
-        Err(OptionRefused::Memory) => Err(Refused::Memory),
-        Err(why) => Err(Refused::Why(Refusal::Options(why))),
-    }
 }

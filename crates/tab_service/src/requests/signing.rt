@@ -3,17 +3,19 @@ ghost use Rattle.std.specs.Prelude.{◌≡◌, IfOk, Some, None, if◌then◌els
 ghost use Rattle.std.specs.List.{list_any};
 ghost use Rattle.std.specs.Option.{option_copied};
 ghost use Rattle.tab_http.specs.Headers.{is_named};
+ghost use Rattle.tab_page.specs.Queries.{decoded};
 ghost use Rattle.tab_service.specs.Targets.{text_of};
-ghost use Rattle.tab_service.specs.Signing.{sole_value, date_value, first_of, comp_of, signed_by, unsigned};
+ghost use Rattle.tab_service.specs.Signing.{sole_value, date_value, comp_of, signed_by};
 
 use crate::copies::owned;
+use form_urlencoded::decode;
 use std::alloc::Global;
 use std::str;
 use tab_auth::Signed;
 use tab_edm::TextValue;
 use tab_http::{Header, first_value};
 use tab_keys::Memory;
-use tab_page::values_of;
+use tab_page::QueryOptions;
 
 /// What of a message is signed, and how.
 #[tactic(auto, unfolding(crate::specs::Signing::signed_by))]
@@ -34,18 +36,6 @@ pub fn signed_by(
         date,
         path,
         comp,
-    })
-}
-
-/// The path alone, which is all that is looked at where nobody has to sign.
-pub fn unsigned(alloc: Global, path: &str) -> Result<Signed, Memory>
-    ensures { IfOk result (λ signed. signed ≡ unsigned path.now) }
-{
-    Ok(Signed {
-        authorization: None,
-        date: None,
-        path: owned(alloc, path)?,
-        comp: None,
     })
 }
 
@@ -111,19 +101,22 @@ fn text_from(alloc: Global, bytes: &[u8]) -> Result<Option<TextValue>, Memory>
 }
 
 /// The first value of `comp` in a query.
-#[tactic(auto, unfolding(crate::specs::Signing::comp_of))]
+#[tactic(auto, unfolding(crate::specs::Signing::comp_of, tab_page::specs::QueryOptions::options_in))]
 fn comp_of(alloc: Global, query: &str) -> Result<Option<TextValue>, Memory>
     ensures { IfOk result (λ comp. comp ≡ comp_of query.now) }
 {
-    let values = values_of(alloc, "comp", query)?;
-    first_of(alloc, &values)
+    let options = QueryOptions::read(alloc, query)?;
+    match options.comp {
+        Some(value) => Ok(Some(decoded(alloc, value)?)),
+        None => Ok(None),
+    }
 }
 
-fn first_of(alloc: Global, values: &[TextValue]) -> Result<Option<TextValue>, Memory>
-    ensures { IfOk result (λ first. first ≡ first_of values.now) }
+fn decoded(alloc: Global, value: &[u8]) -> Result<TextValue, Memory>
+    ensures { IfOk result (λ text. text ≡ decoded value.now) }
 {
-    match values {
-        [] => Ok(None),
-        [first, ..] => Ok(Some(owned(alloc, first.as_str())?)),
+    match decode(alloc, value) {
+        Ok(text) => owned(alloc, text.as_str()),
+        Err(_) => Err(Memory),
     }
 }

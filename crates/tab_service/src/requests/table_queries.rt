@@ -1,19 +1,17 @@
 //! The query of a list of tables (the Table service's "Query Tables").
-ghost use Rattle.std.specs.Prelude.{◌≡◌, Ok, Err, MatchResult};
-ghost use Rattle.std.specs.Option.{option_copied};
-ghost use Rattle.tab_page.specs.Queries.{single};
 ghost use Rattle.tab_service.specs.Answers.{Gives};
-ghost use Rattle.tab_service.specs.TableQueries.{options_result, count_of, after_of, token_name, without_filter, table_window};
+ghost use Rattle.tab_service.specs.TableQueries.{after_of, token_name, without_filter, table_window};
+ghost use Rattle.std.specs.Prelude.{◌≡◌};
 ghost use Rattle.tab_keys.specs.TableNames.{name_refusal};
+ghost use Rattle.tab_page.specs.QueryOptions.{text_of, seen_view};
 ghost use Rattle.tab_page.specs.declared.queries.OptionRefused.TheVariants as option;
 ghost use Rattle.tab_service.specs.declared.refusals.Refusal.TheVariants.{Options};
 ghost use Rattle.tab_service.specs.declared.refusals.Refused.TheVariants.{Why};
 
 use crate::{Refusal, Refused};
 use std::alloc::Global;
-use tab_edm::TextValue;
 use tab_keys::{KeyText, NameRefused, TableName};
-use tab_page::{MOST_ROWS, OptionRefused, Token, TokenRefused, read_top, values_of};
+use tab_page::{OptionRefused, OptionSeen, QueryOptions, token_of, top_of};
 
 /// Which tables a query asks for.
 #[derive(Debug, Drop)]
@@ -25,60 +23,25 @@ pub struct TableWindow {
 }
 
 /// Which tables a query asks for, or why it is refused.
-#[tactic(auto, unfolding(crate::specs::TableQueries::table_window, crate::specs::TableQueries::sole_option))]
+#[tactic(auto, unfolding(crate::specs::TableQueries::table_window, crate::specs::TableQueries::sole_option, crate::specs::TableQueries::count_of, tab_page::specs::QueryOptions::options_in))]
 pub fn table_window(alloc: Global, query: &str) -> Result<TableWindow, Refused>
     ensures { Gives result (table_window query.now) }
 {
-    let tops = values_of(alloc, "$top", query)?;
-    let top = sole(&tops)?;
-    let tokens = values_of(alloc, "NextTableName", query)?;
-    let token = sole(&tokens)?;
-    let top = count_of(top)?;
+    let options = QueryOptions::read(alloc, query)?;
+    let top = options.top.value()?;
+    let token = options.table.value()?;
+    let top = top_of(alloc, top)?;
     let after = after_of(alloc, token)?;
-    let filters = values_of(alloc, "$filter", query)?;
-    Ok(without_filter(&filters, TableWindow { after, top })?)
+    Ok(without_filter(options.filter, TableWindow { after, top })?)
 }
 
-/// The one value of an option, if it has one.
-fn sole(values: &[TextValue]) -> Result<Option<&TextValue>, Refusal>
-    ensures { MatchResult result
-        (λ value. options_result (single values.now) ≡ Ok (option_copied value))
-        (λ why. options_result (single values.now) ≡ Err why) }
+/// The name that the list begins with, by its token, which is not decoded yet.
+fn after_of(alloc: Global, token: Option<&[u8]>) -> Result<Option<TableName>, Refused>
+    ensures { Gives result (after_of (text_of token.entry)) }
 {
-    match values {
-        [] => Ok(None),
-        [value] => Ok(Some(value)),
-        _ => Err(Refusal::Options(OptionRefused::BadOption)),
-    }
-}
-
-/// How many tables there may be.
-#[tactic(auto, unfolding(crate::specs::TableQueries::count_of))]
-fn count_of(top: Option<&TextValue>) -> Result<u16, Refusal>
-    ensures { MatchResult result
-        (λ count. count_of (option_copied top.entry) ≡ Ok count)
-        (λ why. count_of (option_copied top.entry) ≡ Err why) }
-{
-    let Some(top) = top else {
-        return Ok(MOST_ROWS);
-    };
-    match read_top(top.as_str().as_bytes()) {
-        Some(count) => Ok(count),
-        None => Err(Refusal::Options(OptionRefused::BadTop)),
-    }
-}
-
-/// The name that the list begins with, by its token.
-fn after_of(alloc: Global, token: Option<&TextValue>) -> Result<Option<TableName>, Refused>
-    ensures { Gives result (after_of (option_copied token.entry)) }
-{
-    let Some(token) = token else {
-        return Ok(None);
-    };
-    match Token::read(alloc, token.as_str()) {
-        Ok(name) => name_after(alloc, &name),
-        Err(TokenRefused::BadToken) => Err(bad_token()),
-        Err(TokenRefused::Memory) => Err(Refused::Memory),
+    match token {
+        Some(token) => name_after(alloc, &token_of(alloc, token)?),
+        None => Ok(None),
     }
 }
 
@@ -100,11 +63,11 @@ fn bad_token() -> Refused
 }
 
 /// The window, unless the query has a filter.
-fn without_filter(filters: &[TextValue], window: TableWindow) -> Result<TableWindow, Refusal>
-    ensures { result ≡ without_filter filters.now window }
+fn without_filter(filter: OptionSeen<'_>, window: TableWindow) -> Result<TableWindow, Refusal>
+    ensures { result ≡ without_filter (seen_view filter.entry) window }
 {
-    match filters {
-        [] => Ok(window),
-        _ => Err(Refusal::FilterOfTables),
+    match filter {
+        OptionSeen::Absent => Ok(window),
+        OptionSeen::Once(_) | OptionSeen::Doubled => Err(Refusal::FilterOfTables),
     }
 }

@@ -1,6 +1,7 @@
 //! What a request's target names: a path `/ACCOUNT/` and one segment, percent-encoded (RFC 3986, section 2.1), with the
 //! addresses of OData 3.0 (`Tables('NAME')`, `NAME(PartitionKey='P',RowKey='R')`).
 ghost use Rattle.std.specs.Prelude.{◌≡◌, IfOk, option_map, vec_items};
+ghost use Rattle.std.specs.Cow.{cow_str_bytes};
 ghost use Rattle.std.specs.List.{list_any};
 ghost use Rattle.std.specs.Option.{option_copied};
 ghost use Rattle.tab_service.specs.Targets.{path_of, query_of, behind, path_behind, ends_segment, one_segment, segment_in, decoded, text_of, quoted, doubled_quote, first_inside, past_quote, value_named, without_spaces, row_key_behind, keys_in, is_tables, name_quoted, before_mark, parted, quoted_table, may_begin_name, row_at, in_parentheses, address_of, resource_of, resource_in};
@@ -11,6 +12,7 @@ use crate::copies::owned;
 use crate::{Refusal, Refused};
 use percent_encoding::{DecodeError, percent_decode};
 use std::alloc::Global;
+use std::borrow::CowStr;
 use tab_edm::TextValue;
 use tab_keys::Memory;
 
@@ -63,8 +65,12 @@ fn resource_in(alloc: Global, account: &str, path: &str) -> Result<Option<Resour
 }
 
 /// The one segment behind that of the account, decoded.
-fn segment_in(alloc: Global, account: &[u8], path: &[u8]) -> Result<Option<TextValue>, Memory>
-    ensures { IfOk result (λ found. found ≡ segment_in account.now path.now) }
+fn segment_in<'t>(
+    alloc: Global,
+    account: &[u8],
+    path: &'t [u8],
+) -> Result<Option<CowStr<'t>>, Memory>
+    ensures { IfOk result (λ found. option_map cow_str_bytes found ≡ segment_in account.now path.entry.now) }
 {
     match path_behind(account, path) {
         Some(segment) => one_segment(alloc, segment),
@@ -81,8 +87,8 @@ fn path_behind<'t>(account: &[u8], target: &'t [u8]) -> Option<&'t [u8]>
     behind(b"/", rest)
 }
 
-fn one_segment(alloc: Global, segment: &[u8]) -> Result<Option<TextValue>, Memory>
-    ensures { IfOk result (λ found. found ≡ one_segment segment.now) }
+fn one_segment(alloc: Global, segment: &[u8]) -> Result<Option<CowStr<'_>>, Memory>
+    ensures { IfOk result (λ found. option_map cow_str_bytes found ≡ one_segment segment.now) }
 {
     if ends_segment(segment) {
         return Ok(None);
@@ -97,15 +103,12 @@ fn ends_segment(segment: &[u8]) -> bool
     segment.contains(&b'/')
 }
 
-/// The text that a segment decodes to.
-fn decoded(alloc: Global, segment: &[u8]) -> Result<Option<TextValue>, Memory>
-    ensures { IfOk result (λ found. found ≡ decoded segment.now) }
+/// The text that a segment decodes to: the segment itself where it has no escape.
+fn decoded(alloc: Global, segment: &[u8]) -> Result<Option<CowStr<'_>>, Memory>
+    ensures { IfOk result (λ found. option_map cow_str_bytes found ≡ decoded segment.now) }
 {
     match percent_decode(segment).decode_utf8(alloc) {
-        Ok(text) => match text.into_owned(alloc) {
-            Ok(text) => Ok(Some(TextValue::new(text))),
-            Err(_) => Err(Memory),
-        },
+        Ok(text) => Ok(Some(text)),
         Err(DecodeError::OutOfMemory) => Err(Memory),
         Err(DecodeError::Utf8(_)) => Ok(None),
     }

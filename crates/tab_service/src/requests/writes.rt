@@ -15,7 +15,7 @@ use std::alloc::Global;
 use tab_edm::{EdmRefused, Entity};
 use tab_history::Ask;
 use tab_http::{Header, Message};
-use tab_json::{BodyEntity, JsonRefused, Properties, read_entity};
+use tab_json::{BodyEntity, JsonRefused, Properties, Scratch, read_entity_with};
 use tab_keys::{KeyText, Memory, TableName};
 use tab_ops::{Group, Item, Match, Op};
 use tab_page::Select;
@@ -45,11 +45,12 @@ fn decided_insert(
     headers: &[Header],
     name: TableName,
     body: &[u8],
+    scratch: &mut Scratch,
 ) -> Result<Operation, Refused>
     ensures { Gives result (decided_insert headers.now name body.now) }
 {
     let minimal = format_with_body(alloc, headers)?;
-    let body = read_body(alloc, body)?;
+    let body = read_body(alloc, body, scratch)?;
     insert_from(alloc, minimal, preference_for(headers), name, body)
 }
 
@@ -87,12 +88,13 @@ fn decided_write(
     keys: (KeyText, KeyText),
     writing: Writing,
     body: &[u8],
+    scratch: &mut Scratch,
 ) -> Result<Operation, Refused>
     ensures { Gives result (decided_write headers.now name keys writing body.now) }
 {
     let minimal = format_with_body(alloc, headers)?;
     let condition = condition_for(headers)?;
-    let body = read_body(alloc, body)?;
+    let body = read_body(alloc, body, scratch)?;
     write_from(alloc, minimal, writing, name, keys, condition, body)
 }
 
@@ -148,10 +150,10 @@ fn decided_delete(
 
 /// What a body says.
 #[tactic(auto, unfolding(crate::specs::Requests::read_body))]
-fn read_body(alloc: Global, bytes: &[u8]) -> Result<BodyEntity, Refused>
+fn read_body(alloc: Global, bytes: &[u8], scratch: &mut Scratch) -> Result<BodyEntity, Refused>
     ensures { Gives result (read_body bytes.now) }
 {
-    match read_entity(alloc, bytes) {
+    match read_entity_with(alloc, bytes, scratch) {
         Ok(body) => Ok(body),
         Err(JsonRefused::Memory) => Err(Refused::Memory),
         Err(why) => Err(Refused::Why(Refusal::Body(why))),
@@ -218,12 +220,13 @@ pub fn change_in_rows(
     alloc: Global,
     message: &Message,
     name: TableName,
+    scratch: &mut Scratch,
 ) -> Result<Operation, Refused>
     ensures { Gives result (change_in_rows message.now name) }
 {
     if message.method.as_str() == "POST" {
         let headers = message.headers.as_slice();
-        decided_insert(alloc, headers, name, message.body.as_slice())
+        decided_insert(alloc, headers, name, message.body.as_slice(), scratch)
     } else {
         Err(Refused::Why(Refusal::Method))
     }
@@ -236,6 +239,7 @@ pub fn change_of_row(
     message: &Message,
     name: TableName,
     keys: (KeyText, KeyText),
+    scratch: &mut Scratch,
 ) -> Result<Operation, Refused>
     ensures { Gives result (change_of_row message.now name keys) }
 {
@@ -243,9 +247,17 @@ pub fn change_of_row(
     let headers = message.headers.as_slice();
     let body = message.body.as_slice();
     if method == "PUT" {
-        decided_write(alloc, headers, name, keys, Writing::Replacing, body)
+        decided_write(
+            alloc,
+            headers,
+            name,
+            keys,
+            Writing::Replacing,
+            body,
+            scratch,
+        )
     } else if method == "MERGE" || method == "PATCH" {
-        decided_write(alloc, headers, name, keys, Writing::Merging, body)
+        decided_write(alloc, headers, name, keys, Writing::Merging, body, scratch)
     } else if method == "DELETE" {
         decided_delete(alloc, headers, name, keys)
     } else {

@@ -3,9 +3,9 @@ use Rattle.std.specs.Str.{IsUtf8}
 use Rattle.tab_service.proofs.TextLemmas.{text_found, text_missing, utf8_is_no_memory}
 use Rattle.tab_service.proofs.requests.targets.decoded.Goals as goal
 
-pub returns-in-Ok-into_owned : goal.returns-in-Ok-into_owned
-returns-in-Ok-into_owned c =
-    text_found _ _ (c.new.ensures ∙ c.in-Ok-into_owned.ensures.ok ∙ c.in-Ok.ensures.value ∙ c.percent_decode.ensures.bytes)
+pub returns-in-Ok : goal.returns-in-Ok
+returns-in-Ok c =
+    text_found _ _ (c.in-Ok.ensures.value ∙ c.percent_decode.ensures.bytes)
     (subst IsUtf8 c.percent_decode.ensures.bytes c.in-Ok.ensures.ok_only_if_utf8)
 
 pub returns-in-Err-Utf8 : goal.returns-in-Err-Utf8
