@@ -3,12 +3,11 @@ ghost use Rattle.std.specs.Prelude.{◌≡◌, ◌≢◌, ℕ, ◌≤◌, List, 
 ghost use Rattle.std.specs.declared.alloc.Global.{Global as TheGlobal};
 ghost use Rattle.tab_cli.specs.Invocations.{digit, IsInvocation};
 
-/// The folder's word that asks for disks in memory.
-const IN_MEMORY: &str = "-";
-
 /// What the program is called with.
 #[derive(Clone, Copy)]
 pub struct Invocation<'a> {
+    /// The folder of the disks, or the word that asks for disks in memory.
+    pub folder: &'a str,
     /// How many servers the store has, from 1 to 8.
     pub servers: usize,
     /// The words of the command.
@@ -17,17 +16,18 @@ pub struct Invocation<'a> {
 
 /// Reads the arguments, of which the first is the program's name.
 pub fn read_invocation(arguments: &[String]) -> Option<Invocation<'_>>
-    ensures some { IfSome result (λ invocation. IsInvocation arguments.now invocation.servers invocation.command.now) }
-    ensures none { IsNone result → (servers : ℕ) → (command : List (TheString TheGlobal)) → IsInvocation arguments.now servers command → ⊥ }
+    ensures some { IfSome result (λ invocation. IsInvocation arguments.now invocation.folder.now invocation.servers invocation.command.now) }
+    ensures none { IsNone result → (folder : List ℕ) (servers : ℕ) (command : List (TheString TheGlobal)) → IsInvocation arguments.now folder servers command → ⊥ }
 {
     let [_, folder, servers, command @ ..] = arguments else {
         return None;
     };
-    if folder.as_str() != IN_MEMORY {
-        return None;
-    }
     let servers = read_servers(servers.as_bytes())?;
-    Some(Invocation { servers, command })
+    Some(Invocation {
+        folder: folder.as_str(),
+        servers,
+        command,
+    })
 }
 
 /// The number of servers that a word spells, from 1 to 8.

@@ -1,34 +1,28 @@
 -- What every history over the first world gives.
-use Rattle.std.proofs.Common.{List, arith}
-use Rattle.tab_history.specs.World.{IsWorld}
+use Rattle.std.proofs.Common.{◌≡◌, List, [], sym, subst, arith}
 use Rattle.tab_history.specs.Kept.{IsBelow, HasTablesBelow}
 use Rattle.tab_history.specs.Legality.{Legal}
 use Rattle.tab_history.specs.Followed.{FollowedWell, FollowedStill}
 use Rattle.tab_history.specs.Ticks.{TicksRise, TicksTellRows}
 use Rattle.tab_history.specs.Numbers.{NumbersRise, MadeNew, DropsHide}
 use Rattle.tab_history.specs.declared.entries.Entry.{Entry}
-use Rattle.tab_history.proofs.DoubtLaws.{no_doubts}
+use Rattle.tab_history.proofs.DoubtLaws.{no_doubts, none_open}
 use Rattle.tab_history.proofs.FollowedLaws.{followed_well}
 use Rattle.tab_history.proofs.StillLaws.{followed_still}
 use Rattle.tab_history.proofs.TickLaws.{ticks_rise, ticks_tell_rows}
 use Rattle.tab_history.proofs.NumberLaws.{numbers_rise, made_new, drops_hide}
-use Rattle.tab_drive.specs.RunStates.{first_world, first_state}
-
-is_world : IsWorld first_world
-is_world = record {
-  names_rise = λ i j d less within. absurd (omega (arith, within));
-  numbers_differ = λ i j d less within. absurd (omega (arith, within));
-  names_below = λ k d within. absurd (omega (arith, within));
-  rows_rise = λ i j d less within. absurd (omega (arith, within));
-  rows_below = λ k d within. absurd (omega (arith, within));
-  ticks_below = λ k d within. absurd (omega (arith, within));
-}
+use Rattle.tab_core.specs.Courses.{first_state}
+use Rattle.tab_core.proofs.FirstCourse.{is_world}
 
 tables_below : HasTablesBelow first_state
 tables_below = (λ k d within. absurd (omega (arith, within)), no_doubts (IsBelow 1))
 
 pub gives_followed : (history : List Entry) → Legal first_state history → FollowedWell first_state history
 gives_followed history legal = followed_well first_state history is_world legal
+
+-- a history without entries is one
+pub none_legal : (history : List Entry) → history ≡ [] → Legal first_state history
+none_legal history none = subst (λ (h : List Entry). Legal first_state h) (sym none) (record { doubts = none_open first_state.world; steps = tt })
 
 pub gives_still : (history : List Entry) → Legal first_state history → FollowedStill first_state history
 gives_still history legal = followed_still first_state history is_world legal

@@ -19,5 +19,6 @@ pub mod SessionSteps
 pub mod ServedEvents
 pub mod Schedules
 pub mod Words
+pub mod InitCauses
 pub mod Completeness
 pub mod Texts

@@ -14,7 +14,8 @@ use Rattle.tab_history.specs.declared.entries.Entry.{Entry}
 use Rattle.tab_history.proofs.DoubtLaws.{none_open}
 use Rattle.tab_history.proofs.HistoryLaws.{after_all-append, Legal-more}
 use Rattle.tab_drive.specs.Schedule.{spelling, end_line}
-use Rattle.tab_drive.specs.RunStates.{RunState, Exchange, opened_state, first_state, opening, Follows, state_after, state_after_all, bytes_of, entries_of, text_of}
+use Rattle.tab_core.specs.Courses.{first_state}
+use Rattle.tab_drive.specs.RunStates.{RunState, Exchange, opened_state, opening, Follows, state_after, state_after_all, bytes_of, entries_of, text_of}
 use Rattle.tab_drive.specs.Sessions.{Keeps}
 use Rattle.tab_drive.specs.Runs.{Exchanged, EventServed, NoneServed, StopsServing, LeftOff, Stops}
 use Rattle.tab_drive.specs.declared.session.Session.{Session}

@@ -1,10 +1,10 @@
 -- The three words of a command.
 use Rattle.std.proofs.Common.{◌≡◌, ℕ, ◌≤◌, ◌<◌, List, [], ◌∷◌, length, get_or, Bool, true, false, refl, arith, sym, ap, ◌∙◌, Option, Some, None, Result, Ok, Err, IfOk}
-use Rattle.std.specs.Prelude.{codes, bytes_eq, if◌then◌else◌, option_map, IfErr, MatchOption}
+use Rattle.std.specs.Prelude.{codes, bytes_eq, if◌then◌else◌, option_map, is_some, IfErr, MatchOption}
 use Rattle.base64.specs.Engines.{standard}
 use Rattle.base64.specs.GeneralPurpose.{decoded_of}
 use Rattle.tab_auth.specs.declared.signatures.Keys.{Keys}
-use Rattle.tab_drive.specs.Commands.{is_account, key_of, IsNamed, IsDrive, IsNoCommand, NamesAccount, NamesKey}
+use Rattle.tab_drive.specs.Commands.{is_account, key_of, IsNamed, IsDrive, IsNoDrive, NamesAccount, NamesKey}
 
 same_three : {A : Type 0} (a b c x y z : A) → x ≡ a → y ≡ b → z ≡ c → a ∷ b ∷ c ∷ [] ≡ x ∷ y ∷ z ∷ []
 same_three a b c x y z p q r = cc
@@ -43,7 +43,7 @@ none_or_some key is = cc
 
 -- the words name what was found by the last of them
 pub named_words : (words : List (List ℕ)) (name word : List ℕ) (found : Option Keys) → words ≡ codes "drive" ∷ name ∷ word ∷ [] → is_account name ≡ true
-    → MatchOption found (key_of word ≡ None) (IsNamed name word) → MatchOption found (IsNoCommand words) (IsDrive words)
+    → MatchOption found (key_of word ≡ None) (IsNamed name word) → MatchOption found (IsNoDrive words) (IsDrive words)
 named_words words name word None spelled allowed unread =
     λ keys drive. let parts = second_and_third (codes "drive") drive.name name drive.word word (sym drive.spelled ∙ spelled) in
     none_or_some keys.key (sym unread ∙ ap key_of (sym parts.1) ∙ drive.named.key_is)
@@ -51,7 +51,7 @@ named_words words name word (Some keys) spelled allowed named = record { name = 
 
 -- where such a look succeeds
 pub named_found : {E : Type 0} (words : List (List ℕ)) (name word : List ℕ) (found : Result (Option Keys) E) → words ≡ codes "drive" ∷ name ∷ word ∷ [] → is_account name ≡ true
-    → IfOk found (λ keys. MatchOption keys (key_of word ≡ None) (IsNamed name word)) → IfOk found (λ keys. MatchOption keys (IsNoCommand words) (IsDrive words))
+    → IfOk found (λ keys. MatchOption keys (key_of word ≡ None) (IsNamed name word)) → IfOk found (λ keys. MatchOption keys (IsNoDrive words) (IsDrive words))
 named_found words name word (Ok keys) spelled allowed named = named_words words name word keys spelled allowed named
 named_found words name word (Err error) spelled allowed named = tt
 
@@ -63,7 +63,7 @@ pub named_or_found : {E T : Type 0} (words : List (List ℕ)) (name word : List 
 named_or_found words name word (Ok found) spelled allowed = tt
 named_or_found words name word (Err error) spelled allowed = record { name = name; word = word; spelled = spelled; allowed = allowed }
 
-read_or_open : (words : List (List ℕ)) (named : NamesAccount words) → IsNoCommand words → (is_open : Bool) → bytes_eq named.word (codes "-") ≡ is_open → NamesKey words
+read_or_open : (words : List (List ℕ)) (named : NamesAccount words) → IsNoDrive words → (is_open : Bool) → bytes_eq named.word (codes "-") ≡ is_open → NamesKey words
 read_or_open words named none false is = record { named = named; is_read = is }
 read_or_open words named none true is = absurd (none (record { account = named.name; key = None }) (record {
   name = named.name;
@@ -74,5 +74,10 @@ read_or_open words named none true is = absurd (none (record { account = named.n
 }))
 
 -- where they are no command, that word was to be read as a key
-pub names_key : (words : List (List ℕ)) → NamesAccount words → IsNoCommand words → NamesKey words
+pub names_key : (words : List (List ℕ)) → NamesAccount words → IsNoDrive words → NamesKey words
 names_key words named none = read_or_open words named none (bytes_eq named.word (codes "-")) refl
+
+-- where nothing was found they are no such words
+pub none_found : (words : List (List ℕ)) (found : Option Keys) → is_some found ≡ false → MatchOption found (IsNoDrive words) (IsDrive words) → IsNoDrive words
+none_found words None none found = found
+none_found words (Some keys) none found = absurd (cc)

@@ -38,9 +38,18 @@ pub record IsDrive (words : List (List ℕ)) (keys : Keys) : Type 0 where
   pub allowed : is_account name ≡ true
   pub named : IsNamed name word keys
 
+-- they are no such words
+abbrev pub IsNoDrive : List (List ℕ) → Type 0
+IsNoDrive words = (keys : Keys) → IsDrive words keys → ⊥
+
+-- the word `init`
+abbrev pub IsInit : List (List ℕ) → Type 0
+IsInit words = words ≡ codes "init" ∷ []
+
 -- the words are none of the commands'
-abbrev pub IsNoCommand : List (List ℕ) → Type 0
-IsNoCommand words = (keys : Keys) → IsDrive words keys → ⊥
+pub record IsNoCommand (words : List (List ℕ)) : Type 0 where
+  pub no_drive : IsNoDrive words
+  pub no_init : IsInit words → ⊥
 
 -- the words are `drive`, an account's name and a third word
 pub record NamesAccount (words : List (List ℕ)) : Type 0 where
@@ -64,7 +73,7 @@ status_of Memory = 7
 
 -- the exit statuses that a run may have
 abbrev pub exit_statuses : List ℕ
-exit_statuses = 0 ∷ 1 ∷ 2 ∷ 3 ∷ 4 ∷ 7 ∷ []
+exit_statuses = 0 ∷ 1 ∷ 2 ∷ 3 ∷ 4 ∷ 5 ∷ 7 ∷ 8 ∷ []
 
 -- its last line
 abbrev pub line_of : RunStop → ℕ → List ℕ

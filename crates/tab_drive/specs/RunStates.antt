@@ -6,7 +6,7 @@ use Rattle.tab_edm.specs.declared.TheConstants.{GREATEST}
 use Rattle.tab_auth.specs.declared.signatures.Keys.{Keys}
 use Rattle.tab_ops.specs.Groups.{ItemView}
 use Rattle.tab_ops.specs.declared.groups.OpRefused.{OpRefused}
-use Rattle.tab_history.specs.World.{World, table_of}
+use Rattle.tab_history.specs.World.{table_of}
 use Rattle.tab_history.specs.Legality.{State, accepted, after_all}
 use Rattle.tab_history.specs.declared.entries.Entry.{Entry}
 use Rattle.tab_history.specs.declared.entries.Entry.TheVariants as entry
@@ -18,6 +18,7 @@ use Rattle.tab_history.specs.declared.asks.Ask.{Ask}
 use Rattle.tab_history.specs.declared.asks.Ask.TheVariants as ask
 use Rattle.tab_history.specs.declared.asks.Reply.{Reply}
 use Rattle.tab_history.specs.declared.asks.Reply.TheVariants as reply
+use Rattle.tab_core.specs.Courses.{first_state}
 use Rattle.tab_service.specs.declared.forms.Request.{Request}
 use Rattle.tab_service.specs.declared.requests.decide.Decided.TheVariants.{Go, No}
 use Rattle.tab_service.specs.Replies.{reply_text}
@@ -39,19 +40,6 @@ pub record Exchange : Type 0 where
   pub event : Scheduled
   pub entries : List Entry
   pub text : List ℕ
-
--- the world of a store that was just made, without tables
-abbrev pub first_world : World
-first_world = record {
-  names = [];
-  next_table = 1;
-  rows = [];
-  floors = record { opening = []; later = [] };
-}
-
--- before any entry
-abbrev pub first_state : State
-first_state = record { world = first_world; bounds = []; tables = []; doubts = []; commit = None }
 
 -- what an opening adds to the history: the bound of the one range
 abbrev pub opening : Entry

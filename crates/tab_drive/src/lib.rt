@@ -2,6 +2,7 @@
 #![tactic(auto)]
 
 mod entries;
+mod inits;
 mod laws;
 mod lines;
 mod look_ups;
@@ -19,6 +20,6 @@ mod tables;
 pub use laws::{calls_are_signed, calls_come_to_something, one_decision, one_text};
 pub use outgoing::{Outgoing, write_outgoing, write_pieces};
 pub use reading::{NextEvent, Unread, next_event};
-pub use runs::{Ended, run};
+pub use runs::{Ended, is_command, run};
 pub use schedule::{RawMessage, Scheduled};
 pub use session::Session;

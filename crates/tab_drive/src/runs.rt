@@ -1,17 +1,21 @@
-//! The top call: one command over a source, a sink and a clock. A key is standard Base64 (RFC 4648, section 4).
-ghost use Rattle.std.specs.Prelude.{◌≡◌, ◌≢◌, ◌⊎◌, ◌<◌, ◌-◌, ◌^◌, ℕ, List, [], ◌≤◌, map, flat_map, string_bytes, Contains, MatchOption, IfOk, IfErr, Some, None};
-ghost use Rattle.std.specs.List.{list_all};
+//! The top call: one command over a source, a sink, disks and a clock. A key is standard Base64 (RFC 4648, section 4).
+ghost use Rattle.std.specs.Prelude.{◌≡◌, ◌≢◌, ◌⊎◌, ◌<◌, ◌-◌, ◌^◌, ℕ, List, [], ◌≤◌, length, map, flat_map, string_bytes, vec_len, Contains, MatchOption, IfOk, IfErr, IsTrue, IsFalse, Some, None};
+ghost use Rattle.std.specs.List.{All, AllZip, list_all};
 ghost use Rattle.tab_outside.specs.Faults.{Rose};
 ghost use Rattle.tab_auth.specs.declared.signatures.Keys.{Keys};
 ghost use Rattle.tab_history.specs.Legality.{Legal};
 ghost use Rattle.tab_history.specs.Followed.{FollowedWell, FollowedStill};
 ghost use Rattle.tab_history.specs.Ticks.{TicksRise, TicksTellRows};
 ghost use Rattle.tab_history.specs.Numbers.{NumbersRise, MadeNew, DropsHide};
-ghost use Rattle.tab_drive.specs.RunStates.{first_state};
+ghost use Rattle.tab_core.specs.Courses.{Course, first_state, first_course};
+ghost use Rattle.tab_core.specs.Making.{IsYard, IsFirstFilled, RoseAt};
+ghost use Rattle.tab_core.specs.Points.{Holds};
 ghost use Rattle.tab_drive.specs.Runs.{traffic, TookLine, usage_line, memory_line};
-ghost use Rattle.tab_drive.specs.Commands.{IsDrive, IsNoCommand, IsNamed, NamesAccount, NamesKey, is_account, is_account_byte, key_of, status_of, line_of, Drives, SaidOnly, exit_statuses};
+ghost use Rattle.tab_drive.specs.Commands.{IsDrive, IsNoDrive, IsInit, IsNoCommand, IsNamed, NamesAccount, NamesKey, is_account, is_account_byte, key_of, status_of, line_of, Drives, SaidOnly, exit_statuses};
 ghost use Rattle.tab_drive.specs.Completeness.{IsServable};
+ghost use Rattle.tab_drive.specs.Inits.{Inits};
 
+use crate::inits::init;
 use crate::outgoing::write_pieces;
 use crate::serving::{RunStop, serve};
 use itoa::Buffer;
@@ -25,8 +29,9 @@ use tab_outside::{Clock, Disk, Sink, Source};
 /// How a run ended.
 #[derive(Drop)]
 pub struct Ended {
-    /// The exit status: 0 at the schedule's end, 1 for words that are no command, 2 for a refused event, 3 where the
-    /// source failed, 4 where the sink did, and 7 where no memory was found.
+    /// The exit status: 0 where the command ended, 1 for words that are no command, 2 for a refused event, 3 where the
+    /// source failed, 4 where the sink did, 5 where a disk did, 7 where no memory was found, and 8 where a disk is not
+    /// empty on which a store was to be made.
     pub status: u8,
     /// What was asked and answered, from the opening on.
     pub history: History,
@@ -36,7 +41,8 @@ pub struct Ended {
 
 const USAGE: &[u8] = b"usage: init / drive ACCOUNT KEY / load ACCOUNT COUNT / show\n";
 
-/// Runs one command: `drive ACCOUNT KEY` serves the schedule that the source gives, over a store in memory.
+/// Runs one command: `init` makes a store over empty disks, of which disks 0 and 1 are the map's, 2 and 3 the names', and
+/// 4 + 2s and 5 + 2s those of server s; `drive ACCOUNT KEY` serves the schedule that the source gives, over a store in memory.
 pub fn run<S: Source, K: Sink, D: Disk, C: Clock>(
     alloc: Global,
     words: &[String],
@@ -75,6 +81,26 @@ pub fn run<S: Source, K: Sink, D: Disk, C: Clock>(
         → IsServable bytes → (Rose (S.faults input.old) (S.faults input.new) → ⊥) → (Rose (K.faults output.old) (K.faults output.new) → ⊥)
         → (result.status ≡ 0) ⊎ (result.status ≡ 7) }
 
+    // `init` reads nothing and says why it is refused: the first disk that is not empty decides, unless one up to it does not
+    // tell its length.
+    ensures inits { IsInit (map string_bytes words.now) → Inits D.tells D.watch D.faults yard.old.items yard.new.items
+        (traffic (S.left input.old) (S.left input.new) (K.taken output.old) (K.taken output.new))
+        (K.faults output.old) (K.faults output.new) result.status result.history result.done }
+    ensures not_empty { IsInit (map string_bytes words.now) → D.tells → (disk : ℕ) → IsFirstFilled D.watch yard.old.items disk
+        → (result.status ≡ 8) ⊎ (result.status ≡ 5) }
+    ensures by_init { (result.status ≡ 5) ⊎ (result.status ≡ 8) → IsInit (map string_bytes words.now) }
+
+    // Where it ends well, the disks hold a store that was just made. Over empty disks it does, if none fails and memory is found.
+    ensures holds { IsInit (map string_bytes words.now) → D.honest → IsYard (vec_len yard.old) → result.status ≡ 0
+        → Holds D.watch first_course yard.new.items }
+    ensures complete_init { IsInit (map string_bytes words.now) → D.tells → All (λ disk. length (D.watch.seen disk) ≡ 0) yard.old.items
+        → ((disk : ℕ) → RoseAt D.faults yard.old.items yard.new.items disk → ⊥) → (result.status ≡ 0) ⊎ (result.status ≡ 7) }
+
+    // Disks that hold a store hold it still. No other command touches them yet.
+    ensures kept { D.honest → (course : Course) → Holds D.watch course yard.old.items → Holds D.watch course yard.new.items }
+    ensures yard { (IsInit (map string_bytes words.now) → ⊥) → yard.new.items ≡ yard.old.items }
+    ensures later { AllZip (λ old new. D.faults old ≤ D.faults new) yard.old.items yard.new.items }
+
     // Other words are refused, and nothing is read. Only where a key had to be read may memory have been wanting.
     ensures words { result.status ≡ 1 → IsNoCommand (map string_bytes words.now) }
     ensures refused { IsNoCommand (map string_bytes words.now) → (result.status ≡ 1) ⊎ ((result.status ≡ 7) × NamesKey (map string_bytes words.now) × SaidOnly
@@ -85,8 +111,10 @@ pub fn run<S: Source, K: Sink, D: Disk, C: Clock>(
         (K.faults output.old) (K.faults output.new) usage_line result.history result.done }
     ensures read_fault { result.status ≡ 3 → Rose (S.faults input.old) (S.faults input.new) }
     ensures write_fault { result.status ≡ 4 → Rose (K.faults output.old) (K.faults output.new) }
-    ensures yard { yard.new.items ≡ yard.old.items }
 {
+    if is_init(words) {
+        return init(alloc, output, yard);
+    }
     match keys_of(alloc, words) {
         Ok(Some(keys)) => drive(alloc, &keys, clock.now(), input, output),
         Ok(None) => said_only(alloc, 1, USAGE, output),
@@ -128,7 +156,7 @@ fn drive<S: Source, K: Sink>(
 }
 
 /// Writes one line, and ends with that status.
-fn said_only<K: Sink>(alloc: Global, status: u8, line: &[u8], output: &mut K) -> Ended
+pub(crate) fn said_only<K: Sink>(alloc: Global, status: u8, line: &[u8], output: &mut K) -> Ended
     ensures status { result.status ≡ status }
     ensures history { result.history ≡ [] }
     ensures done { result.done ≡ 0 }
@@ -143,12 +171,34 @@ fn said_only<K: Sink>(alloc: Global, status: u8, line: &[u8], output: &mut K) ->
     }
 }
 
-const OUT_OF_MEMORY: &[u8] = b"out of memory\n";
+pub(crate) const OUT_OF_MEMORY: &[u8] = b"out of memory\n";
+
+/// Whether the words are those of a command.
+pub fn is_command(alloc: Global, words: &[String]) -> Result<bool, Memory>
+    ensures yes { IfOk result (λ is. IsTrue is → IsNoCommand (map string_bytes words.now) → ⊥) }
+    ensures no { IfOk result (λ is. IsFalse is → IsNoCommand (map string_bytes words.now)) }
+{
+    if is_init(words) {
+        return Ok(true);
+    }
+    Ok(keys_of(alloc, words)?.is_some())
+}
+
+/// Whether the words are the one word `init`.
+fn is_init(words: &[String]) -> bool
+    ensures yes { IsTrue result → IsInit (map string_bytes words.now) }
+    ensures no { IsFalse result → IsInit (map string_bytes words.now) → ⊥ }
+{
+    let [command] = words else {
+        return false;
+    };
+    command.as_str() == "init"
+}
 
 /// The account and the key of the words `drive ACCOUNT KEY`.
 fn keys_of(alloc: Global, words: &[String]) -> Result<Option<Keys>, Memory>
     ensures asked { IfErr result (λ _. NamesAccount (map string_bytes words.now)) }
-    ensures found { IfOk result (λ keys. MatchOption keys (IsNoCommand (map string_bytes words.now)) (IsDrive (map string_bytes words.now))) }
+    ensures found { IfOk result (λ keys. MatchOption keys (IsNoDrive (map string_bytes words.now)) (IsDrive (map string_bytes words.now))) }
 {
     let [command, account, key] = words else {
         return Ok(None);
@@ -252,7 +302,7 @@ fn write_last_line<K: Sink>(output: &mut K, stop: RunStop, done: u64)
 }
 
 /// Writes a line in pieces, as far as the sink takes it.
-fn write_line<K: Sink>(output: &mut K, pieces: &[&[u8]])
+pub(crate) fn write_line<K: Sink>(output: &mut K, pieces: &[&[u8]])
     ensures line { TookLine (K.taken output.old) (K.taken output.new) (K.faults output.old) (K.faults output.new) (flat_map (λ piece. piece.now) pieces.now) }
     ensures later { K.faults output.old ≤ K.faults output.new }
 {

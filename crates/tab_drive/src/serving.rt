@@ -2,7 +2,8 @@
 ghost use Rattle.std.specs.Prelude.{◌≡◌, ◌<◌, ◌≤◌, ◌-◌, ◌^◌, IfNone, IfSome, IfOk, OnErr, Some};
 ghost use Rattle.tab_outside.specs.Faults.{Rose};
 ghost use Rattle.tab_history.specs.Legality.{Legal};
-ghost use Rattle.tab_drive.specs.RunStates.{RunState, first_state};
+ghost use Rattle.tab_core.specs.Courses.{first_state};
+ghost use Rattle.tab_drive.specs.RunStates.{RunState};
 ghost use Rattle.tab_drive.specs.Sessions.{Keeps};
 ghost use Rattle.tab_drive.specs.Runs.{traffic, EventServed, StopsServing, Stops};
 
@@ -12,6 +13,7 @@ use crate::session::Session;
 use std::alloc::Global;
 use tab_auth::Keys;
 use tab_history::History;
+use tab_json::Scratch;
 use tab_keys::Memory;
 use tab_outside::{Sink, Source};
 
@@ -30,14 +32,32 @@ pub enum RunStop {
     Memory,
 }
 
-/// Reads the next event, takes it, and writes what it gives, by way of the buffer.
+/// Room that is kept from event to event, so that none of them takes it anew.
+#[derive(Drop)]
+pub struct Room {
+    /// For what is read of a body.
+    scratch: Scratch,
+    /// For what is written.
+    output: Vec<u8>,
+}
+
+impl Room {
+    fn new(alloc: Global) -> Room {
+        Room {
+            scratch: Scratch::new(alloc),
+            output: Vec::new(alloc),
+        }
+    }
+}
+
+/// Reads the next event, takes it, and writes what it gives, by way of the room that is kept.
 pub fn serve_event<S: Source, K: Sink>(
     alloc: Global,
     keys: &Keys,
     session: &mut Session,
     input: &mut S,
     output: &mut K,
-    buffer: &mut Vec<u8>,
+    room: &mut Room,
 ) -> Option<RunStop>
     ensures served { (state : RunState) → Keeps session.old state → IfNone result (EventServed keys.now state
         (traffic (S.left input.old) (S.left input.new) (K.taken output.old) (K.taken output.new)) session.old session.new) }
@@ -60,11 +80,11 @@ pub fn serve_event<S: Source, K: Sink>(
     if number == u64::MAX {
         return Some(RunStop::Refused);
     }
-    let outgoing = match session.step(alloc, keys, event) {
+    let outgoing = match session.step(alloc, keys, event, &mut room.scratch) {
         Ok(outgoing) => outgoing,
         Err(_) => return Some(RunStop::Memory),
     };
-    match write_outgoing(output, buffer, &outgoing) {
+    match write_outgoing(output, &mut room.output, &outgoing) {
         Ok(()) => None,
         Err(_) => Some(RunStop::WriteFault),
     }
@@ -101,10 +121,10 @@ pub fn serve<S: Source, K: Sink>(
     ensures write_later { K.faults output.old ≤ K.faults output.new }
 {
     let mut session = Session::open(alloc, moment)?;
-    let mut buffer = Vec::new(alloc);
+    let mut room = Room::new(alloc);
     let mut done = 0;
     loop {
-        if let Some(stop) = serve_event(alloc, keys, &mut session, input, output, &mut buffer) {
+        if let Some(stop) = serve_event(alloc, keys, &mut session, input, output, &mut room) {
             return Ok(Served {
                 stop,
                 done,

@@ -17,8 +17,11 @@ use crate::stores::{Store, StoreAnswer};
 use std::alloc::Global;
 use tab_auth::Keys;
 use tab_history::{Ask, Bounds, Denied, Entry, History, Reply};
+use tab_json::Scratch;
 use tab_keys::Memory;
-use tab_service::{Decided, ReplyBytes, Request, decide, http_fault, memory_reply, reply_bytes};
+use tab_service::{
+    Decided, ReplyBytes, Request, decide_with, http_fault, memory_reply, reply_bytes,
+};
 
 /// A store in memory on its way through a schedule, with the history so far.
 #[derive(Drop)]
@@ -51,9 +54,15 @@ impl Session {
         })
     }
 
-    /// Takes one event: adds its entries to the history and answers what it gives to be written. Where no memory is
-    /// found, all is as before.
-    pub fn step(&mut self, alloc: Global, keys: &Keys, event: Scheduled) -> Result<Outgoing, Memory>
+    /// Takes one event, by way of the scratch for a body: adds its entries to the history and answers what it gives to be
+    /// written. Where no memory is found, all is as before.
+    pub fn step(
+        &mut self,
+        alloc: Global,
+        keys: &Keys,
+        event: Scheduled,
+        scratch: &mut Scratch,
+    ) -> Result<Outgoing, Memory>
         requires { self.old.number < 2 ^ 64 - 1 }
         ensures ok { (state : RunState) → Keeps self.old state → IfOk result (λ outgoing. Stepped keys.now state event (outgoing_text outgoing) self.old self.new) }
         ensures err { OnErr result (Unchanged self.old self.new) }
@@ -64,18 +73,24 @@ impl Session {
                 self.number += 1;
                 Ok(Outgoing::Done)
             }
-            Scheduled::Call { message } => self.call(alloc, keys, message),
+            Scheduled::Call { message } => self.call(alloc, keys, message, scratch),
         }
     }
 
     /// Reads a message and answers it.
-    fn call(&mut self, alloc: Global, keys: &Keys, message: RawMessage) -> Result<Outgoing, Memory>
+    fn call(
+        &mut self,
+        alloc: Global,
+        keys: &Keys,
+        message: RawMessage,
+        scratch: &mut Scratch,
+    ) -> Result<Outgoing, Memory>
         requires number { self.old.number < 2 ^ 64 - 1 }
         ensures ok { (state : RunState) → Keeps self.old state → IfOk result (λ outgoing. Stepped keys.now state (Scheduled.Call message) (outgoing_text outgoing) self.old self.new) }
         ensures err { OnErr result (Unchanged self.old self.new) }
     {
         match whole_message(alloc, message) {
-            Ok(message) => match decide(alloc, &message, keys, self.moment)? {
+            Ok(message) => match decide_with(alloc, &message, keys, self.moment, scratch)? {
                 Decided::Go(request) => self.answer(alloc, request),
                 Decided::No(reply) => Ok(self.refuse(Outgoing::Reply(reply))),
             },

@@ -12,4 +12,4 @@ returns-in-Ok-clause-complete g c bytes told servable sound kept =
     (λ is. let rose = c.in-Ok.ensures.write_fault is in omega (arith, rose, c.write_last_line.ensures.later)) sound kept)
 
 pub returns-in-Err-clause-status : goal.returns-in-Err-clause-status
-returns-in-Err-clause-status g c = rw c.said_only.ensures.status (5, omega arith, refl)
+returns-in-Err-clause-status g c = rw c.said_only.ensures.status (6, omega arith, refl)

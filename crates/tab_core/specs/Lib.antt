@@ -1,0 +1,4 @@
+pub mod Replays
+pub mod Courses
+pub mod Points
+pub mod Making
