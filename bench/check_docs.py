@@ -28,7 +28,7 @@ Rattle.CRATE.specs.declared.TheConstants file: old: new: ensures fsync _ rattle-
 PROTOCOL = """GET POST PUT MERGE PATCH DELETE post Accept Authorization Content-Length Content-Type Connection Date If-Match Prefer
 x-ms-date x-ms-version x-ms-continuation-NextTableName x-ms-continuation-NextPartitionKey x-ms-continuation-NextRowKey keep-alive close
 SharedKeyLite NextTableName NextPartitionKey NextRowKey PartitionKey RowKey Timestamp TableName Tables odata.metadata comp
-ACCOUNT KEY SERVERS INDEX T P R W YYYY-MM-DDTHH:MM:SS.fffffffZ
+ACCOUNT KEY SERVERS FOLDER disk0 disk1 mkdir INDEX T P R W YYYY-MM-DDTHH:MM:SS.fffffffZ
 eq ne gt ge lt le and or not guid end now call drive init load show usage: event reply read out status repeat again talk words
 content-type: urn:uuid: gu g A tables: filters: libsqlite3-dev SUBJECT NAME key at rows item act all crlf lf text shop""".split()
 
