@@ -23,3 +23,4 @@ pub use laws::{
 pub use lists::FrameList;
 pub use prepared::{Prepared, prepare};
 pub use reading::{CodecRefused, MOST_BODY, read_frame};
+pub use sizes::row_size;

@@ -61,8 +61,9 @@ fn property_size(property: &Property) -> usize
     4 + property.name.as_str().len() + value_size(&property.value)
 }
 
+/// How many bytes a row takes in a frame.
 #[tactic(auto, unfolding(crate::specs::Spelling::row_spelling, crate::specs::Spelling::properties_spelling))]
-fn row_size(row: &Row) -> usize
+pub fn row_size(row: &Row) -> usize
     requires { IsShort (row_spelling row.now) }
     ensures { result ≡ length (row_spelling row.now) }
 {

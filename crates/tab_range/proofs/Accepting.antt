@@ -94,7 +94,7 @@ has_partition : (span : Interval) (a b : Key) → a.table ≡ b.table → a.pk �
 has_partition span a b e f = rw (is_before_partition a b span.lo e f, is_before_partition a b span.hi e f) refl
 
 -- a span that has the key of a group's first operation has the keys of all
-group_inside : (span : Interval) (table : ℕ) (group : List ItemView) → IsGroup group → IsTrue (has span (first_key table group)) → All (λ item. IsTrue (has span (item_key table item))) group
+pub group_inside : (span : Interval) (table : ℕ) (group : List ItemView) → IsGroup group → IsTrue (has span (first_key table group)) → All (λ item. IsTrue (has span (item_key table item))) group
 group_inside span table [] is inside = λ k d within. absurd (omega arith)
 group_inside span table (first ∷ items) is inside =
     All-cons (λ item. IsTrue (has span (item_key table item))) first items inside

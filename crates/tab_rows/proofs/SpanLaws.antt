@@ -1,21 +1,21 @@
 -- The rows at the keys of a span, or of any set of keys: look-ups and changes there are those among all rows, and changes
 -- elsewhere leave them as they are.
-use Rattle.std.proofs.Common.{◌≡◌, ℕ, List, [], ◌∷◌, ◌++◌, Bool, true, false, not, ◌||◌, filter, All, refl, sym, ap, ◌∙◌}
+use Rattle.std.proofs.Common.{◌≡◌, ℕ, List, [], ◌∷◌, ◌++◌, Bool, true, false, not, ◌&&◌, ◌||◌, filter, All, refl, sym, ap, ◌∙◌}
 use Rattle.std.specs.Prelude.{IsTrue}
 use Rattle.std.specs.Ordering.{is_lt, nat_cmp, ordering_then}
-use Rattle.std.proofs.lemmas.Bool.{true≢false}
+use Rattle.std.proofs.lemmas.Bool.{true≢false, and_parts}
 use Rattle.std.proofs.lemmas.List.Elements.{filter_passes, filter-append}
 use Rattle.std.proofs.lemmas.List.Kept.{AllPairs-filter}
-use Rattle.tab_keys.specs.Order.{text_cmp, key_lt, same_key, is_before}
+use Rattle.tab_keys.specs.Order.{text_cmp, key_lt, same_key, is_before, bound_lt}
 use Rattle.tab_keys.specs.Spans.{Interval, has}
 use Rattle.tab_keys.specs.declared.keys.Key.{Key}
 use Rattle.tab_keys.specs.declared.bounds.Bound.{Bound}
 use Rattle.tab_keys.specs.declared.bounds.Bound.TheVariants.{At, End}
-use Rattle.tab_keys.proofs.OrderLaws.{is_before_alike, is_before_At}
+use Rattle.tab_keys.proofs.OrderLaws.{is_before_alike, is_before_At, is_before_below, is_before_not_earlier}
 use Rattle.tab_rows.specs.Rows.{RowView, AreRising, row_at, with_row, without_row, rows_from}
 use Rattle.tab_rows.specs.Spans.{rows_in}
 use Rattle.tab_rows.proofs.Lists.{filter_all, find-filter, filter-filter}
-use Rattle.tab_rows.proofs.RowLaws.{or_from_apart, above_iff, rows_at_key}
+use Rattle.tab_rows.proofs.RowLaws.{or_from_apart, above_iff, rows_at_key, rows_cut}
 
 -- ---- sets of keys
 
@@ -137,3 +137,60 @@ All-rows_in span rows = filter_passes (λ row. has span row.key) rows
 -- rows that lie in a span are its rows
 pub rows_in-all : (span : Interval) (rows : List RowView) → All (λ row. IsTrue (has span row.key)) rows → rows_in span rows ≡ rows
 rows_in-all span rows inside = filter_all (λ row. has span row.key) rows inside
+
+-- ---- spans within others, and side by side
+
+-- the one span begins no earlier and ends no later
+is_within : (inner outer : Interval) (key : Key) → bound_lt inner.lo outer.lo ≡ false → bound_lt outer.hi inner.hi ≡ false → has inner key ≡ true → has outer key ≡ true
+is_within inner outer key first last inside = by_test (is_before key outer.lo) refl
+  where
+    parts : (not (is_before key inner.lo) ≡ true) × (is_before key inner.hi ≡ true)
+    parts = and_parts (not (is_before key inner.lo)) (is_before key inner.hi) inside
+
+    by_test : (t : Bool) → is_before key outer.lo ≡ t → has outer key ≡ true
+    by_test true e = absurd (true≢false (sym parts.0 ∙ ap not (is_before_not_earlier key outer.lo inner.lo first e)))
+    by_test false e = rw (e, is_before_not_earlier key inner.hi outer.hi last parts.1) refl
+
+-- then its rows are those among the other's
+pub rows_in-within : (inner outer : Interval) (rows : List RowView) → bound_lt inner.lo outer.lo ≡ false → bound_lt outer.hi inner.hi ≡ false → rows_in inner (rows_in outer rows) ≡ rows_in inner rows
+rows_in-within inner outer rows first last = filter-filter (λ row. has inner row.key) (λ row. has outer row.key) (λ row inside. is_within inner outer row.key first last inside) rows
+
+filter_both : {X : Type 0} (p q r : X → Bool) → ((x : X) → (q x && p x) ≡ r x) → (xs : List X) → filter p (filter q xs) ≡ filter r xs
+filter_both p q r both [] = refl
+filter_both {X} p q r both (x ∷ xs) = by_test (filter_both p q r both xs) (q x) (p x) refl refl (both x)
+  where
+    by_test : filter p (filter q xs) ≡ filter r xs → (b c : Bool) → q x ≡ b → p x ≡ c → (q x && p x) ≡ r x → filter p (filter q (x ∷ xs)) ≡ filter r (x ∷ xs)
+    by_test rest true true e f g = let h : r x ≡ true = sym g ∙ rw (e, f) refl in rw (e, f, h) (ap (λ ys. x ∷ ys) rest)
+    by_test rest true false e f g = let h : r x ≡ false = sym g ∙ rw (e, f) refl in rw (e, f, h) rest
+    by_test rest false c e f g = let h : r x ≡ false = sym g ∙ rw e refl in rw (e, h) rest
+
+front_test : (low high middle : Bool) → (middle ≡ true → high ≡ true) → ((not low && high) && middle) ≡ (not low && middle)
+front_test true high middle h = refl
+front_test false true middle h = refl
+front_test false false true h = h refl
+front_test false false false h = refl
+
+back_test : (low high middle : Bool) → (low ≡ true → middle ≡ true) → ((not low && high) && not middle) ≡ (not middle && high)
+back_test true high true h = refl
+back_test true high false h = absurd (true≢false (sym (h refl)))
+back_test false true middle h = and_true (not middle)
+  where
+    and_true : (t : Bool) → t ≡ (t && true)
+    and_true true = refl
+    and_true false = refl
+back_test false false true h = refl
+back_test false false false h = refl
+
+-- a span's rows are those of its parts below and above a bound in it, one after another
+pub rows_in-joined : (lo middle hi : Bound) (rows : List RowView) → AreRising rows → bound_lt middle lo ≡ false → bound_lt hi middle ≡ false
+    → rows_in (record { lo = lo; hi = hi }) rows ≡ rows_in (record { lo = lo; hi = middle }) rows ++ rows_in (record { lo = middle; hi = hi }) rows
+rows_in-joined lo middle hi rows rising first last =
+    let whole : Interval = record { lo = lo; hi = hi } in
+    let lower : Interval = record { lo = lo; hi = middle } in
+    let upper : Interval = record { lo = middle; hi = hi } in
+    let below = λ (row : RowView). is_before row.key middle in
+    rows_cut below (λ a b less before. is_before_below a.key b.key middle less before) (rows_in whole rows) (AreRising-kept (has whole) rows rising)
+    ∙ (ap (λ front. front ++ filter (λ row. not (below row)) (rows_in whole rows))
+    (filter_both below (λ row. has whole row.key) (λ row. has lower row.key) (λ row. front_test (is_before row.key lo) (is_before row.key hi) (is_before row.key middle) (is_before_not_earlier row.key middle hi last)) rows)
+    ∙ ap (λ back. rows_in lower rows ++ back)
+    (filter_both (λ row. not (below row)) (λ row. has whole row.key) (λ row. has upper row.key) (λ row. back_test (is_before row.key lo) (is_before row.key hi) (is_before row.key middle) (is_before_not_earlier row.key lo middle first)) rows))

@@ -11,7 +11,7 @@ mod steps;
 
 pub use changes::Change;
 pub use cursors::Cursor;
-pub use laws::reads_of_a_span_are_reads_of_all;
+pub use laws::{reads_of_a_span_are_reads_of_all, spans_part_and_join};
 pub use row::Row;
 pub use rows::Rows;
 pub use steps::Steps;

@@ -49,6 +49,14 @@ impl Rows {
         self.rows.len()
     }
 
+    /// All rows, in their order.
+    pub fn as_slice(&self) -> &[Row]
+        ensures rows { result.now ≡ self.now.rows }
+        ensures rising { AreRising self.now.rows }
+    {
+        self.rows.as_slice()
+    }
+
     /// The row at the key.
     pub fn get(&self, key: &Key) -> Option<&Row>
         ensures row { option_copied result ≡ row_at self.now.rows key.now }
