@@ -18,6 +18,7 @@ pub mod Adopting
 pub mod Causes
 pub mod Keeping
 pub mod Reopening
+pub mod Places
 pub mod Pieces
 pub mod Settling
 pub mod Makes

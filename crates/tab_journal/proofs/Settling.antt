@@ -5,7 +5,7 @@ use Rattle.tab_outside.specs.Disks.{Watch, Rests, CountsNow, OnlyNow, ReadsImage
 use Rattle.tab_outside.specs.Pairs.{Now, Since, AddsNone}
 use Rattle.tab_outside.proofs.Moments.{rests_adds_none, tells_weaker, now_weaker, since_weaker, since_begins}
 use Rattle.tab_codec.specs.declared.frames.Frame.{Frame}
-use Rattle.tab_journal.specs.Areas.{Spells}
+use Rattle.tab_journal.specs.Areas.{AreFrames, Spells}
 use Rattle.tab_journal.specs.Fitting.{Fits}
 use Rattle.tab_journal.specs.Reading.{Found, read_areas}
 use Rattle.tab_journal.specs.Stores.{StoreView, area_a, area_b, area_of, IsSameStore, IsFaultOrSpent, StoreCauses, fails_by, Answers, HasFrames, SpellsEither}
@@ -56,12 +56,26 @@ sound_still w sense old held stands sound = record {
       record { frames = r.frames; has = r.has; stand = stands.still r.frames r.stand };
 }
 
+-- frames that stand for what was held with the step that is let go stand for what is held
+means_forgotten : {C S : Type 0} (sense : Sense C S) (held : C) (doubt : Option S) → ((frames : List Frame) → IfDoubt sense held doubt frames → StandsFor sense held frames)
+    → (frames : List Frame) → Means sense held doubt frames → Means sense held None frames
+means_forgotten sense held doubt still frames (inl stand) = inl stand
+means_forgotten sense held doubt still frames (inr in_doubt) = inl (still frames in_doubt)
+
+pub sound_forgotten : {D C S : Type 0} (w : Watch D) (sense : Sense C S) (old : KeptView D C S) → ((frames : List Frame) → IfDoubt sense old.held old.doubt frames → StandsFor sense old.held frames)
+    → IsSound w sense old → IsSound w sense (record old { doubt = None })
+sound_forgotten w sense old still sound = record {
+  kind = sound.kind;
+  now = now_weaker w (Spells old.store.kind old.store.number) (Means sense old.held old.doubt) (Means sense old.held None) (area_a old.store) (area_b old.store) (means_forgotten sense old.held old.doubt still) sound.now;
+  runs = sound.runs;
+}
+
 -- ---- a step
 
 pub steps_on : {C S : Type 0} (sense : Sense C S) (kind : ℕ) (held : C) (step : S) (list : List Frame) (frame : Frame) → GoesOn sense → kind ≡ sense.kind → frame ≡ sense.frame_of step
-    → sense.fits (sense.tells held) step → StandsFor sense held list → Fits kind list frame × StandsWith sense held step (list ++ frame ∷ [])
-steps_on sense kind held step list frame goes is_kind is_frame fits stand =
-    let on = goes list (sense.tells held) step fits stand in (
+    → AreFrames kind list → sense.fits (sense.tells held) step → StandsFor sense held list → Fits kind list frame × StandsWith sense held step (list ++ frame ∷ [])
+steps_on sense kind held step list frame goes is_kind is_frame are fits stand =
+    let on = goes list (sense.tells held) step (subst (λ (k : ℕ). AreFrames k list) is_kind are) fits stand in (
       subst (λ (k : ℕ). Fits k list frame) (sym is_kind) (subst (λ (f : Frame). Fits sense.kind list f) (sym is_frame) on.0),
       subst (λ (f : Frame). StandsWith sense held step (list ++ f ∷ [])) (sym is_frame) on.1,
     )

@@ -22,9 +22,9 @@ pub record Sense (C S : Type 0) : Type 1 where
   pub ready : C → S → Type 0
   pub done : C → S → C → Type 0
 
--- a step's frame goes on from frames that stand for what was told
+-- a step's frame goes on from frames of a store that stand for what was told
 abbrev pub GoesOn : {C S : Type 0} → Sense C S → Type 0
-GoesOn sense = (frames : List Frame) (told : sense.Told) (step : _) → sense.fits told step → sense.stands frames told
+GoesOn sense = (frames : List Frame) (told : sense.Told) (step : _) → AreFrames sense.kind frames → sense.fits told step → sense.stands frames told
     → Fits sense.kind frames (sense.frame_of step) × sense.stands (frames ++ sense.frame_of step ∷ []) (sense.stepped told step)
 
 -- the frames of a checkpoint are frames of a store, and stand for what is told

@@ -36,6 +36,17 @@ AfterCheckpoint old new (Err EpochSpent) = (new ≡ old) × (old.store.epoch ≡
 AfterCheckpoint old new (Err Memory) = new ≡ old
 AfterCheckpoint old new (Err (Damaged area at)) = ⊥
 
+-- a call is refused by disk faults alone
+abbrev pub IsKeptFaultAlone : {T : Type 0} → Result T KeptRefused → Type 0
+IsKeptFaultAlone (Ok x) = Unit {0}
+IsKeptFaultAlone (Err (DiskFault area)) = Unit {0}
+IsKeptFaultAlone (Err _) = ⊥
+
+-- where the bytes of an area are damaged, it is area 0 or area 1
+abbrev pub IsDamaged : {T : Type 0} → Result T KeptRefused → Type 0
+IsDamaged (Err (Damaged area at)) = area ≤ 1
+IsDamaged _ = Unit {0}
+
 -- a disk fault of an area comes only where that disk's count rose, and no count falls
 pub record KeptCauses {D C S T : Type 0} (faults : D → ℕ) (old new : KeptView D C S) (result : Result T KeptRefused) : Type 0 where
   pub later_a : faults (area_a old.store) ≤ faults (area_a new.store)

@@ -9,3 +9,4 @@ pub mod Stores
 pub mod Making
 pub mod Keeping
 pub mod KeptCauses
+pub mod KeptLends

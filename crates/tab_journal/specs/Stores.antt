@@ -103,6 +103,11 @@ IsFaultOrMemory (Err (NotAStore area at)) = ⊥
 IsFaultOrMemory (Err EpochSpent) = ⊥
 IsFaultOrMemory _ = Unit {0}
 
+-- a place that has no spelling is in area 0 or area 1
+abbrev pub IsInArea : StoreRefused → Type 0
+IsInArea (NotAStore area at) = area ≤ 1
+IsInArea _ = Unit {0}
+
 -- ---- what was read
 
 -- the store after a reading: the area that counts is the current one

@@ -1,6 +1,7 @@
 //! What a store stands for, in memory and on its two disks, with at most one step in doubt.
 
-ghost use Rattle.std.specs.Prelude.{◌≡◌, ℕ, ◌-◌, ◌^◌, ◌≤◌, ◌⊎◌, ◌||◌, ◌&&◌, List, false, true, None, Some, IsTrue, IsFalse, IfOk, IfErr, OnOk, OnErr, IfSome, Ok, Err};
+ghost use Rattle.std.specs.Prelude.{◌≡◌, ℕ, ◌+◌, ◌-◌, ◌^◌, ◌≤◌, ◌⊎◌, ◌||◌, ◌&&◌, List, false, true, None, Some, IsTrue, IsFalse, IfOk, IfErr, OnOk, OnErr, IfSome, Ok, Err};
+ghost use Rattle.std.specs.Borrow.{sem};
 ghost use Rattle.std.specs.Option.{option_copied};
 ghost use Rattle.tab_outside.specs.Armed.{with_fail, with_stop};
 ghost use Rattle.tab_outside.specs.Disks.{Rests};
@@ -8,62 +9,16 @@ ghost use Rattle.tab_outside.specs.Pairs.{Extends, AddsNone, Since};
 ghost use Rattle.tab_codec.specs.declared.frames.Frame.{Frame};
 ghost use Rattle.tab_journal.specs.Areas.{Spells};
 ghost use Rattle.tab_journal.specs.Stores.{area_a, area_b, area_of, IsSameStore, IsUnmoved, KeepsStops, HasFrames};
-ghost use Rattle.tab_journal.specs.Keeping.{Sense, GoesOn, ChecksOut, StandsFor, StandsWith, IsSound, IsClear, IsDone, IsReady, IsRewritten, StandsStill};
-ghost use Rattle.tab_journal.specs.KeptCauses.{passed_on, AfterChange, AfterSettling, AfterCheckpoint, KeptCauses};
+ghost use Rattle.tab_journal.specs.Keeping.{StandsFor, StandsWith, IfDoubt, IsSound, IsClear, IsReady, IsRewritten, StandsStill};
+ghost use Rattle.tab_journal.specs.KeptCauses.{passed_on, AfterChange, AfterSettling, AfterCheckpoint, IsKeptFaultAlone, IsDamaged, KeptCauses};
+ghost use Rattle.tab_journal.specs.KeptLends.{lends_held};
 ghost use Rattle.tab_journal.specs.declared.kept.KeptRefused.TheVariants.{Damaged};
 
-use crate::{Store, StoreRefused};
+use crate::{Content, Store, StoreRefused};
 use std::alloc::Global;
 use std::marker::Model;
-use tab_codec::{Frame, Prepared};
-use tab_keys::Memory;
+use tab_codec::Prepared;
 use tab_outside::Disk;
-
-/// What a store's frames stand for, with what is held beside it in memory alone.
-pub trait Content: Drop {
-    /// One step of it, which is one frame.
-    type Step: Drop;
-
-    /// What frames tell of it, which frames stand for that, and what a step makes of it.
-    ghost sense: { Sense Self Self.Step };
-
-    /// The frame of a step.
-    fn prepare(&self, alloc: Global, step: &Self::Step) -> Result<Prepared, Memory>
-        requires { sense.fits (sense.tells self.now) step.now }
-        ensures { IfOk result (λ prepared. prepared ≡ sense.frame_of step.now) };
-
-    /// The frames of a checkpoint.
-    fn pieces(&self, alloc: Global) -> Result<Vec<Prepared>, Memory>
-        ensures { IfOk result (λ pieces. sense.is_checkpoint pieces.items (sense.tells self.now)) };
-
-    /// Does a step; this takes no memory.
-    fn apply(&mut self, step: Self::Step)
-        requires fits { sense.fits (sense.tells self.old) step }
-        requires ready { sense.ready self.old step }
-        ensures { IsDone sense self.old step self.new };
-
-    /// Whether the frames stand for it.
-    fn is_read(&self, alloc: Global, frames: &[Frame]) -> Result<bool, Memory>
-        ensures yes { IfOk result (λ is. IsTrue is → StandsFor sense self.now frames.now) }
-        ensures no { IfOk result (λ is. IsFalse is → StandsFor sense self.now frames.now → ⊥) };
-
-    /// Whether they stand for it with the step.
-    fn is_read_with(
-        &self,
-        alloc: Global,
-        step: &Self::Step,
-        frames: &[Frame],
-    ) -> Result<bool, Memory>
-        requires { sense.fits (sense.tells self.now) step.now }
-        ensures yes { IfOk result (λ is. IsTrue is → StandsWith sense self.now step.now frames.now) }
-        ensures no { IfOk result (λ is. IsFalse is → StandsWith sense self.now step.now frames.now → ⊥) };
-
-    /// A step's frame goes on from frames that stand for what is told.
-    ghost goes_on: { GoesOn sense };
-
-    /// The frames of a checkpoint stand for what is told.
-    ghost checks_out: { ChecksOut sense };
-}
 
 /// Why a call on something kept was refused.
 #[derive(Clone, Copy, Debug, PartialEq, Eq)]
@@ -109,14 +64,15 @@ impl<D, C: Content> Model for Kept<D, C> {
 
     ghost view = { λ kept. record { store = kept.store; held = kept.held; doubt = kept.doubt; failed = kept.failed } };
 
-    ghost invariant = { λ kept. kept.failed ≡ false → (kept.store.failed ≡ false) × (kept.doubt ≡ None) };
+    ghost invariant = { λ kept. (kept.store.kind ≡ C.sense.kind) × (kept.failed ≡ false → (kept.store.failed ≡ false) × (kept.doubt ≡ None)) };
 }
 
 impl<D: Disk, C: Content> Kept<D, C> {
     /// A store that runs, and what its frames stand for.
     pub fn new(store: Store<D>, held: C) -> Kept<D, C>
+        requires kind { store.kind ≡ C.sense.kind }
         ensures view { result ≡ record { store = store; held = held; doubt = None; failed = store.failed } }
-        ensures sound { D.honest → store.kind ≡ C.sense.kind → (frames : List Frame) → HasFrames D.watch store frames → StandsFor C.sense held frames → IsSound D.watch C.sense result }
+        ensures sound { D.honest → (frames : List Frame) → HasFrames D.watch store frames → StandsFor C.sense held frames → IsSound D.watch C.sense result }
     {
         let failed = store.failed();
         Kept {
@@ -144,7 +100,26 @@ impl<D: Disk, C: Content> Kept<D, C> {
         let Ok(prepared) = self.held.prepare(alloc, &step) else {
             return Err(KeptRefused::Memory);
         };
-        match self.store.append(&prepared) {
+        self.change_prepared(&prepared, step)
+    }
+
+    /// The same with the frame of the step made ready before: it takes no memory.
+    pub fn change_prepared(&mut self, prepared: &Prepared, step: C::Step) -> Result<(), KeptRefused>
+        requires frame { prepared.now ≡ C.sense.frame_of step }
+        requires running { IsFalse self.old.failed }
+        requires fits { C.sense.fits (C.sense.tells self.old.held) step }
+        requires ready { C.sense.ready self.old.held step }
+        requires sound { D.honest → IsSound D.watch C.sense self.old }
+        ensures sound { D.honest → IsSound D.watch C.sense self.new }
+        ensures after { AfterChange C.sense self.old self.new step result }
+        ensures faults_alone { IsKeptFaultAlone result }
+        ensures images { D.honest → Extends D.watch (Spells self.old.store.kind self.old.store.number) (StandsWith C.sense self.old.held step)
+            (area_a self.old.store) (area_b self.old.store) (area_a self.new.store) (area_b self.new.store) }
+        ensures same { IsSameStore self.old.store self.new.store }
+        ensures stops { KeepsStops D.has_stops self.old.store self.new.store }
+        ensures causes { KeptCauses D.faults self.old self.new result }
+    {
+        match self.store.append(prepared) {
             Ok(()) => {
                 self.held.apply(step);
                 Ok(())
@@ -165,6 +140,7 @@ impl<D: Disk, C: Content> Kept<D, C> {
         ensures sound { D.honest → IsSound D.watch C.sense self.new }
         ensures after { AfterSettling C.sense self.old self.new result }
         ensures never { D.honest → (area at : ℕ) → result ≡ Err (Damaged area at) → ⊥ }
+        ensures damaged { IsDamaged result }
         ensures images_a { D.honest → AddsNone D.watch (area_a self.old.store) (area_a self.new.store) }
         ensures images_b { D.honest → AddsNone D.watch (area_b self.old.store) (area_b self.new.store) }
         ensures same { IsSameStore self.old.store self.new.store }
@@ -201,10 +177,20 @@ impl<D: Disk, C: Content> Kept<D, C> {
 
     /// The frames that were read end at a place, and stand for something else.
     fn damaged(&self) -> KeptRefused
-        ensures { (area : ℕ) × (at : ℕ) × (result ≡ Damaged area at) }
+        ensures { (area : ℕ) × (at : ℕ) × (result ≡ Damaged area at) × (area ≤ 1) }
     {
         let (area, at) = self.store.end();
         KeptRefused::Damaged { area, at }
+    }
+
+    /// Lets go of the step in doubt, which is nothing that is held any more: frames that stand for what is held with it
+    /// stand for what is held.
+    pub fn forget(&mut self)
+        requires { (frames : List Frame) → IfDoubt C.sense self.old.held self.old.doubt frames → StandsFor C.sense self.old.held frames }
+        ensures is { self.new ≡ record self.old { doubt = None } }
+        ensures sound { D.honest → IsSound D.watch C.sense self.old → IsSound D.watch C.sense self.new }
+    {
+        self.doubt = None;
     }
 
     /// Rewrites the store to what is held. All pieces are prepared before the first write.
@@ -214,6 +200,7 @@ impl<D: Disk, C: Content> Kept<D, C> {
         ensures sound { D.honest → IsSound D.watch C.sense self.new }
         ensures ok { D.honest → OnOk result (IsRewritten D.watch C.sense self.new) }
         ensures after { AfterCheckpoint self.old self.new result }
+        ensures epoch { OnOk result (self.new.store.epoch ≡ self.old.store.epoch + 1) }
         ensures spent { self.old.store.epoch ≡ 2 ^ 64 - 1 → (result ≡ Err KeptRefused.EpochSpent) ⊎ (result ≡ Err KeptRefused.Memory) }
         ensures images { D.honest → Since D.watch (Spells self.old.store.kind self.old.store.number) (StandsFor C.sense self.old.held)
             (D.watch.moment (area_a self.old.store)) (D.watch.moment (area_b self.old.store)) (area_a self.new.store) (area_b self.new.store) }
@@ -237,6 +224,7 @@ impl<D: Disk, C: Content> Kept<D, C> {
     pub fn failed(&self) -> bool
         ensures is { result ≡ self.now.failed }
         ensures clear { IsClear self.now }
+        ensures kind { self.now.store.kind ≡ C.sense.kind }
     {
         self.failed
     }
@@ -257,6 +245,7 @@ impl<D: Disk, C: Content> Kept<D, C> {
 
     /// What is held in memory, to change what frames do not tell of it, or need not tell any longer.
     pub fn held_mut(&mut self) -> &mut C
+        ensures* lends { sem 𝓛 (lends_held D.row C.row C.Step.row C.Content self.entry result) }
         ensures value { result.now ≡ self.old.held }
         ensures sound { D.honest → IsSound D.watch C.sense self.old → (held : C) → StandsStill C.sense self.old.held self.old.doubt held
             → IsSound D.watch C.sense (record self.old { held = held }) }

@@ -3,6 +3,7 @@
 #![tactic(auto)]
 
 mod areas;
+mod contents;
 mod disks;
 mod fitting;
 mod headers;
@@ -17,8 +18,9 @@ mod refusals;
 mod rewriting;
 mod store;
 
+pub use contents::Content;
 pub use fitting::{MAP_KIND, NAMES_KIND, SERVER_KIND};
-pub use kept::{Content, Kept, KeptRefused};
+pub use kept::{Kept, KeptRefused};
 pub use laws::{areas_spell_what_is_read, rows_that_agree_have_the_same_keys};
 pub use maps::MOST_RANGES;
 pub use refusals::{Back, StoreRefused};

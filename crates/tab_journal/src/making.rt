@@ -5,11 +5,11 @@ ghost use Rattle.std.specs.List.{AllByRecursion};
 ghost use Rattle.tab_outside.specs.Pairs.{AddsNone};
 ghost use Rattle.tab_codec.specs.Spelling.{body};
 ghost use Rattle.tab_codec.specs.Frames.{IsOrderly, IsShort};
-ghost use Rattle.tab_journal.specs.Areas.{IsClosed, first_gate};
+ghost use Rattle.tab_journal.specs.Areas.{AreFrames, IsClosed, first_gate};
 ghost use Rattle.tab_journal.specs.Fitting.{takes_all, told_first, told_by, is_whole_store};
 ghost use Rattle.tab_journal.specs.Reading.{read_areas};
 ghost use Rattle.tab_journal.specs.Steps.{EachNow};
-ghost use Rattle.tab_journal.specs.Stores.{area_a, area_b, gates_from, HasFrames};
+ghost use Rattle.tab_journal.specs.Stores.{area_a, area_b, gates_from, IsInArea, HasFrames};
 ghost use Rattle.tab_journal.specs.Making.{Opens, IsRefusedFor, IsMade};
 ghost use Rattle.tab_outside.specs.Faults.{HasCause, HasCauseFor};
 ghost use Rattle.tab_journal.specs.declared.refusals.StoreRefused.TheVariants.{NotAStore};
@@ -79,6 +79,8 @@ impl<D: Disk> Store<D> {
     ) -> Result<(Store<D>, Vec<Frame>), Back<D>>
         ensures ok { D.honest → IfOk result (λ opened. HasFrames D.watch opened.0 opened.1.items
             × AddsNone D.watch a (area_a opened.0) × AddsNone D.watch b (area_b opened.0)) }
+        ensures are { IfOk result (λ opened. AreFrames kind opened.1.items) }
+        ensures area { IfErr result (λ back. IsInArea back.refused) }
         ensures is { IfOk result (λ opened. (opened.0.kind ≡ kind) × (opened.0.number ≡ number) × (opened.0.failed ≡ false)) }
         ensures places { IfOk result (λ opened. opened.0.places ≡ gates_from first_gate opened.1.items) }
         ensures exact { D.honest → Opens result (read_areas kind number (D.watch.seen a) (D.watch.seen b)) }

@@ -1,6 +1,6 @@
 //! A whole compaction: a store's frames are rewritten to others.
 
-ghost use Rattle.std.specs.Prelude.{min, ◌≡◌, ◌≢◌, ℕ, ◌+◌, ◌-◌, ◌^◌, ◌⊎◌, ◌↔◌, List, [], false, None, IsFalse, OnOk, Err};
+ghost use Rattle.std.specs.Prelude.{◌≡◌, ◌≢◌, ℕ, ◌+◌, ◌-◌, ◌^◌, ◌⊎◌, ◌↔◌, List, [], false, None, IsFalse, OnOk, Err};
 ghost use Rattle.tab_codec.specs.declared.frames.Frame.{Frame};
 ghost use Rattle.tab_journal.specs.Areas.{AreFrames};
 ghost use Rattle.tab_journal.specs.Stores.{area_a, area_b, IsSameStore, IsUnmoved, IsFaultAlone, IsFaultOrSpent, StoreCauses, fails_by, HasFrames, HasPieces, KeepsStops, KeptSince, SpellsEither};
@@ -17,7 +17,7 @@ impl<D: Disk> Store<D> {
         ensures ok { D.honest → (frames : List Frame) → HasFrames D.watch self.old frames → AreFrames self.old.kind pieces.now → OnOk result (HasFrames D.watch self.new pieces.now) }
         ensures images { D.honest → (frames : List Frame) → HasFrames D.watch self.old frames → AreFrames self.old.kind pieces.now
             → SpellsEither D.watch self.old.kind self.old.number frames pieces.now (D.watch.moment (area_a self.old)) (D.watch.moment (area_b self.old)) (area_a self.new) (area_b self.new) }
-        ensures epoch { OnOk result (self.new.epoch ≡ min (self.old.epoch + 1) (2 ^ 64 - 1)) }
+        ensures epoch { OnOk result (self.new.epoch ≡ self.old.epoch + 1) }
         ensures alone { IsFaultOrSpent result }
         ensures spent { (result ≡ Err EpochSpent) ↔ (self.old.epoch ≡ 2 ^ 64 - 1) }
         ensures untouched { result ≡ Err EpochSpent → self.new ≡ self.old }

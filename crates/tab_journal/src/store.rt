@@ -11,7 +11,7 @@ ghost use Rattle.tab_codec.specs.Frames.{AreBytes};
 ghost use Rattle.tab_journal.specs.Areas.{Spells, AreFrames, IsClosed, IsUnder, opened, first_gate};
 ghost use Rattle.tab_journal.specs.Fitting.{Fits};
 ghost use Rattle.tab_journal.specs.Reading.{front_of, is_open, read_areas};
-ghost use Rattle.tab_journal.specs.Stores.{StoreView, area_a, area_b, current_area, area_of, is_fault, IsFaultOrMemory, IsSameStore, IsUnmoved, StoreCauses, fails_by, IsFaultAlone, IsFaultOrSpent, ReadsAreas, Answers, adopted, IsSpare, HasFrames, HasPieces, KeepsStops, KeptSince, SpellsEither, gates_from};
+ghost use Rattle.tab_journal.specs.Stores.{StoreView, area_a, area_b, current_area, area_of, is_fault, IsFaultOrMemory, IsSameStore, IsUnmoved, StoreCauses, fails_by, IsFaultAlone, IsFaultOrSpent, IsInArea, ReadsAreas, Answers, adopted, IsSpare, HasFrames, HasPieces, KeepsStops, KeptSince, SpellsEither, gates_from};
 ghost use Rattle.tab_journal.specs.Steps.{EachNow, Adds};
 ghost use Rattle.tab_journal.specs.declared.refusals.StoreRefused.TheVariants.{DiskFault, EpochSpent};
 
@@ -147,6 +147,7 @@ impl<D: Disk> Store<D> {
         ensures images { D.honest → (frames : List Frame) → HasFrames D.watch self.old frames
             → KeptSince D.watch self.new frames (D.watch.moment (area_a self.old)) (D.watch.moment (area_b self.old)) }
         ensures begun { OnOk result (self.new.building ≢ None) }
+        ensures below { OnOk result (self.old.epoch + 1 < 2 ^ 64) }
         ensures alone { IsFaultOrSpent result }
         ensures spent { (result ≡ Err EpochSpent) ↔ (self.old.epoch ≡ 2 ^ 64 - 1) }
         ensures untouched { result ≡ Err EpochSpent → self.new ≡ self.old }
@@ -251,6 +252,8 @@ impl<D: Disk> Store<D> {
     /// it gives.
     pub fn reopen(&mut self, alloc: Global) -> Result<Vec<Frame>, StoreRefused>
         ensures ok { D.honest → IfOk result (λ frames. HasFrames D.watch self.new frames.items) }
+        ensures are { IfOk result (λ frames. AreFrames self.old.kind frames.items) }
+        ensures area { IfErr result IsInArea }
         ensures exact { D.honest → Answers self.new result
             (read_areas self.old.kind self.old.number (D.watch.seen (area_a self.old)) (D.watch.seen (area_b self.old))) }
         ensures images_a { D.honest → AddsNone D.watch (area_a self.old) (area_a self.new) }
