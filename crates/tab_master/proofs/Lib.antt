@@ -6,3 +6,7 @@ pub mod CheckpointLaws
 pub mod TableLemmas
 pub mod TableIndexes
 pub mod ListingLaws
+pub mod NamesReadLaws
+pub mod DropTies
+pub mod DropLaws
+pub mod NamesCallLaws

@@ -1,12 +1,13 @@
 //! The names of tables as they are kept in memory, and what the frames of their store stand for.
 
-ghost use Rattle.std.specs.Prelude.{◌≡◌, ◌≤◌, ◌↔◌, None, IfOk, OnOk, IsTrue, IsPermutation, AllPairs, IsFalse};
+ghost use Rattle.std.specs.Prelude.{◌≡◌, ◌≤◌, ◌↔◌, None, take, slice_get, IfOk, OnOk, IsTrue, IsPermutation, AllPairs, IsFalse};
 ghost use Rattle.std.specs.Ordering.{is_lt};
-ghost use Rattle.tab_history.specs.World.{Named, table_of};
-ghost use Rattle.tab_master.specs.Spelled.{by_name, AreNames};
+ghost use Rattle.tab_history.specs.World.{Named, table_of, names_from};
+ghost use Rattle.tab_master.specs.Spelled.{by_name, by_number, names_kind, AreNames};
 ghost use Rattle.tab_master.specs.Ordered.{in_order};
 ghost use Rattle.tab_codec.specs.declared.frames.Frame.TheVariants as frames;
-ghost use Rattle.tab_master.specs.Names.{names_sense};
+ghost use Rattle.tab_journal.specs.Areas.{AreFrames};
+ghost use Rattle.tab_master.specs.Names.{NamesStand, names_sense};
 
 use crate::checkpoint::listing_frames;
 use crate::listing::Listing;
@@ -15,6 +16,7 @@ use crate::{NamesStep, TableRow};
 use std::alloc::Global;
 use std::marker::Model;
 use tab_codec::{Frame, Prepared, prepare};
+use tab_history::TableNames;
 use tab_journal::Content;
 use tab_keys::{Memory, TableName};
 
@@ -37,9 +39,23 @@ impl Model for NamesContent {
 }
 
 impl NamesContent {
+    /// What the frames of a store stand for.
+    pub fn read(alloc: Global, frames: &[Frame]) -> Result<NamesContent, Memory>
+        requires { AreFrames names_kind frames.now }
+        ensures { IfOk result (λ content. NamesStand frames.now content.told) }
+    {
+        let listing = Listing::told(alloc, frames)?.unwrap();
+        let tables = sorted(listing.tables);
+        Ok(NamesContent {
+            next_table: listing.next_table as u64,
+            tables: Tables::sorted(tables),
+        })
+    }
+
     /// The number of the table of that name, whatever its case.
     pub fn find(&self, name: &TableName) -> Option<u64>
-        ensures { result ≡ table_of self.now.told.names name.now }
+        ensures is { result ≡ table_of self.now.told.names name.now }
+        ensures orderly { AreNames self.now.told }
     {
         self.tables.find(name)
     }
@@ -49,6 +65,26 @@ impl NamesContent {
         ensures { result ≡ self.now.told.next_table }
     {
         self.next_table
+    }
+
+    /// The first `top` names from one on, or from the first, and the one behind them.
+    pub fn list(
+        &self,
+        alloc: Global,
+        after: &Option<TableName>,
+        top: u16,
+    ) -> Result<(TableNames, Option<TableName>), Memory>
+        ensures names { IfOk result (λ listed. listed.0 ≡ take top (names_from self.now.told.names after.now)) }
+        ensures next { IfOk result (λ listed. listed.1 ≡ slice_get (names_from self.now.told.names after.now) top) }
+    {
+        self.tables.list(alloc, after, top)
+    }
+
+    /// The tables in the order of their numbers.
+    pub fn numbered(&self, alloc: Global) -> Result<Vec<TableRow>, Memory>
+        ensures { IfOk result (λ rows. rows.items ≡ in_order by_number self.now.told.names) }
+    {
+        self.tables.numbered(alloc)
     }
 
     /// A copy in memory of its own.
@@ -86,7 +122,7 @@ impl Content for NamesContent {
 
     ghost sense = { names_sense };
 
-    ghost goes_on = { λ list told step fits stand. fits.goes_on list stand };
+    ghost goes_on = { λ list told step are fits stand. fits.goes_on list stand };
 
     ghost checks_out = { λ list told checkpoint. (checkpoint.are, checkpoint.stand) };
 

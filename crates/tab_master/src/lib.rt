@@ -4,10 +4,15 @@
 mod checkpoint;
 mod content;
 mod listing;
+mod names;
+mod names_opening;
+mod refusals;
 mod rows;
 mod steps;
 mod tables;
 
 pub use content::NamesContent;
+pub use names::Names;
+pub use refusals::NamesRefused;
 pub use rows::TableRow;
 pub use steps::NamesStep;

@@ -41,6 +41,14 @@ impl Tables {
         }
     }
 
+    /// These tables, which are in order.
+    pub fn sorted(tables: Vec<TableRow>) -> Tables
+        requires { AreInOrder tables.items }
+        ensures { result.names ≡ tables.items }
+    {
+        Tables { tables }
+    }
+
     /// The number of the table of that name, whatever its case.
     pub fn find(&self, name: &TableName) -> Option<u64>
         ensures { result ≡ table_of self.now.names name.now }
