@@ -1,4 +1,3 @@
-pub mod Replays
 pub mod Courses
 pub mod Points
 pub mod Making

@@ -8,7 +8,7 @@ use Rattle.tab_journal.specs.Areas.{Spells}
 use Rattle.tab_history.specs.World.{World}
 use Rattle.tab_history.specs.Legality.{State, acted}
 use Rattle.tab_history.specs.Configurations.{MapRow, Configuration, next_tick_of, ticked}
-use Rattle.tab_core.specs.Replays.{SpelledRange, spelled_range}
+use Rattle.tab_server.specs.Replays.{SpelledRange, spelled_range}
 use Rattle.tab_master.specs.Spelled.{SpelledMap, SpelledNames, spelled_map, spelled_names}
 use Rattle.tab_core.specs.Courses.{Course, IsCourse, committed_by}
 

@@ -33,6 +33,10 @@ made_whole next_tick one = record one { next_tick = next_tick; is_whole = true }
 abbrev pub with_changes : List Change → ℕ → SpelledRange → SpelledRange
 with_changes changes next_tick one = record one { rows = applied one.rows changes; next_tick = next_tick }
 
+-- a range, as a change of the range of a number leaves it
+abbrev pub changed_at : ℕ → List Change → ℕ → SpelledRange → SpelledRange
+changed_at range changes next_tick one = if range == one.range then with_changes changes next_tick one else one
+
 -- What a frame makes of the range of a number, where it was begun: Begin begins it without rows, and forgets an earlier
 -- copy; Rows and a Change give it rows, Whole and a Change its next tick. Frames of other ranges leave it as it is.
 abbrev pub spelled_next : ℕ → Option SpelledRange → Frame → Option SpelledRange

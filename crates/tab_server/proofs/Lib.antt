@@ -1,0 +1,10 @@
+pub mod Replaying
+pub mod RowSizes
+pub mod Sameness
+pub mod Folding
+pub mod Copies
+pub mod Checkpoints
+pub mod ChangeLaws
+pub mod Filling
+pub mod Holding
+pub mod Accepted
