@@ -22,7 +22,7 @@ import sys
 KIT = """rt rt:run rt:ci rt:check rt:try rt:fmt rt:tidy rt:plant rt:must-fail rt:doc rt:version rt:help rt:test
 ghost ghost:use requires x x.now x.old x.new Ord must-fail specs proofs src data stdin stdout args u64::MAX
 OnOk OnErr IfOk IfErr IfSome IfNone Ok Err Some None specs.declared.TheConstants declared.MODULE.TheConstants
-Rattle.CRATE.specs.declared.TheConstants file: old: new: ensures fsync _ rattle-kit-13f python3""".split()
+Rattle.CRATE.specs.declared.TheConstants file: old: new: ensures fsync fdatasync _ rattle-kit-13f python3""".split()
 
 # Words of the protocol, of a schedule, of a talk and of printed lines.
 PROTOCOL = """GET POST PUT MERGE PATCH DELETE post Accept Authorization Content-Length Content-Type Connection Date If-Match Prefer
@@ -121,7 +121,7 @@ class Tree:
                 if constant:
                     value = int(constant.group(1).replace("_", "")) << int(constant.group(2) or 0)
                     self.values.setdefault(name, set()).add(value)
-            clause = re.match(r"\s*(?:ensures|requires)\s+(" + NAME + r")\s*\{", line)
+            clause = re.match(r"\s*(?:ensures\*?|requires)\s+(" + NAME + r")\s*\{", line)
             if clause and function:
                 found.add(clause.group(1))
                 for key in (function, function.split("::")[-1]):
