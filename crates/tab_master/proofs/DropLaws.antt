@@ -1,18 +1,18 @@
 -- A table that a name has may be dropped, and the names without its number are those without the name.
-use Rattle.std.proofs.Common.{◌≡◌, ℕ, List, [], ◌∷◌, Bool, true, false, cond, not, ◌||◌, filter, Option, Some, None, refl, sym, ap, ◌∙◌, subst, arith}
+use Rattle.std.proofs.Common.{◌≡◌, ℕ, List, [], ◌∷◌, Bool, true, false, cond, not, ◌||◌, Some, refl, sym, ap, ◌∙◌, subst, arith}
 use Rattle.std.specs.Prelude.{All, AllPairs, IsTrue, IsFalse, ◌==◌, find, option_map}
 use Rattle.std.specs.List.{list_any}
 use Rattle.std.specs.Ordering.{is_lt}
 use Rattle.std.proofs.lemmas.Bool.Decides.{nat_tests}
-use Rattle.std.proofs.lemmas.List.Elements.{All-head, All-tail, All-weaker}
+use Rattle.std.proofs.lemmas.List.Elements.{All-weaker}
 use Rattle.tab_rows.proofs.Lists.{filter_all}
 use Rattle.tab_rows.proofs.Lists.{AllPairs-head, AllPairs-tail}
 use Rattle.tab_history.specs.World.{Named, table_of, without_name}
 use Rattle.tab_history.proofs.NameLaws.{is_named}
 use Rattle.tab_master.specs.Spelled.{SpelledNames, AreNames, without_table, by_name}
-use Rattle.tab_master.specs.Names.{NamesFit, NamesGoOn, dropped}
+use Rattle.tab_master.specs.Names.{NamesGoOn, dropped}
 use Rattle.tab_master.specs.NamesCalls.{without}
-use Rattle.tab_master.specs.declared.steps.NamesStep.TheVariants.{Create, Drop}
+use Rattle.tab_master.specs.declared.steps.NamesStep.TheVariants.{Drop}
 use Rattle.tab_master.proofs.DropTies.{apart_behind, apart_number}
 use Rattle.tab_master.proofs.TableLemmas.{without_name-apart}
 use Rattle.tab_master.proofs.StandingLaws.{names_go_on}

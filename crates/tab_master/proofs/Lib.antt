@@ -10,3 +10,10 @@ pub mod NamesReadLaws
 pub mod DropTies
 pub mod DropLaws
 pub mod NamesCallLaws
+pub mod MapShort
+pub mod MapListingLaws
+pub mod MapRowLaws
+pub mod MapFits
+pub mod Permutations
+pub mod CommitLaws
+pub mod MapCalls

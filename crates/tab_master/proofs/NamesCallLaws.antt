@@ -1,29 +1,27 @@
 -- How what a call leaves, and its causes, go on from what is kept to the names, and from their settling to the call's own step.
-use Rattle.std.proofs.Common.{◌≡◌, ℕ, ◌+◌, ◌≤◌, ◌⊎◌, inl, inr, List, Bool, true, false, Option, Some, None, Result, Ok, Err, refl, sym, ap, ◌∙◌, subst, arith}
+use Rattle.std.proofs.Common.{◌≡◌, ℕ, ◌+◌, ◌≤◌, ◌⊎◌, inl, inr, List, Bool, true, Option, Some, None, Result, Ok, Err, refl, sym, ap, ◌∙◌, subst, arith}
 use Rattle.tab_outside.specs.Disks.{Watch}
 use Rattle.tab_outside.specs.Pairs.{Extends, AddsNone}
-use Rattle.tab_outside.specs.Faults.{Rose}
 use Rattle.tab_codec.specs.declared.frames.Frame.{Frame}
 use Rattle.tab_journal.specs.Areas.{Spells}
-use Rattle.tab_journal.specs.Stores.{area_a, area_b, IsSameStore, KeepsStops}
+use Rattle.tab_journal.specs.Stores.{area_a, area_b, IsSameStore}
 use Rattle.std.specs.Prelude.{◌<◌, ◌-◌, ◌^◌, OnOk}
 use Rattle.std.specs.Option.{is_some}
 use Rattle.tab_outside.specs.Pairs.{Since}
-use Rattle.tab_outside.proofs.Moments.{extends_none, since_weaker}
+use Rattle.tab_outside.proofs.Moments.{extends_none}
 use Rattle.tab_journal.proofs.Running.{left_alone}
-use Rattle.tab_journal.specs.Keeping.{IfDoubt, StandsStill, IsSound, IsReady, IsRewritten, StandsFor, StandsWith}
-use Rattle.tab_journal.specs.KeptCauses.{IsDamaged, AfterChange, AfterCheckpoint, AfterSettling, KeptCauses}
+use Rattle.tab_journal.specs.Keeping.{IfDoubt, StandsStill, IsRewritten, StandsFor, StandsWith}
+use Rattle.tab_journal.specs.KeptCauses.{IsDamaged, AfterCheckpoint}
 use Rattle.tab_journal.specs.declared.kept.KeptRefused.{KeptRefused}
 use Rattle.tab_journal.specs.declared.kept.KeptRefused.TheVariants as kept
-use Rattle.tab_journal.proofs.Causes.{rose_before, rose_after}
 use Rattle.tab_history.specs.World.{table_of}
-use Rattle.tab_master.specs.Spelled.{SpelledNames, AreNames, names_kind}
+use Rattle.tab_master.specs.Spelled.{SpelledNames, AreNames}
 use Rattle.tab_master.specs.Names.{NamesView, NamesStand, NamesGoOn, NamesReady, names_sense, created, dropped}
 use Rattle.tab_master.specs.declared.steps.NamesStep.{NamesStep}
 use Rattle.tab_master.specs.declared.steps.NamesStep.TheVariants.{Create, Drop}
 use Rattle.tab_master.proofs.StandingLaws.{names_go_on}
 use Rattle.tab_master.proofs.DropLaws.{dropped_is_without}
-use Rattle.tab_master.specs.NamesCalls.{NamesKept, names_refused, IsSettledTo, IsUnsettled, AfterSettle, AfterStep, AfterRewrite, IsNames, IsStill, IsNumberFor, MayCreate, AfterCreate, AfterDrop, Rewrites, SettlesFirst, IsOwnDamage, Settles, AddsNames, Creates, Drops, without, NamesCauses}
+use Rattle.tab_master.specs.NamesCalls.{NamesKept, names_refused, AfterStep, AfterRewrite, IsStill, IsNumberFor, MayCreate, AfterCreate, AfterDrop, RewritesNames, SettlesFirst, IsOwnDamage, SettlesNames, AddsNames, Creates, Drops, without, NamesCauses}
 use Rattle.tab_master.specs.declared.refusals.NamesRefused.{NamesRefused}
 use Rattle.tab_master.specs.declared.refusals.NamesRefused.TheVariants.{AlreadyThere, NotThere, IdsSpent, DiskFault, Memory, EpochSpent, Damaged}
 
@@ -59,14 +57,14 @@ then_adds w P old mid new same none_a none_b adds =
     none_then_adds w old.store.kind old.store.number P (area_a old.store) (area_b old.store) (area_a mid.store) (area_b mid.store) (area_a new.store) (area_b new.store) none_a none_b
     (adds_named w P old.store.kind old.store.number mid.store.kind mid.store.number (area_a mid.store) (area_b mid.store) (area_a new.store) (area_b new.store) same.kind same.number adds)
 
-pub creates_then : {D : Type 0} (w : Watch D) (honest : Type 0) (name : List ℕ) (old mid new : NamesKept D) (settled : Result (Unit {0}) NamesRefused) (result : Result ℕ NamesRefused) → Settles w honest old mid settled
+pub creates_then : {D : Type 0} (w : Watch D) (honest : Type 0) (name : List ℕ) (old mid new : NamesKept D) (settled : Result (Unit {0}) NamesRefused) (result : Result ℕ NamesRefused) → SettlesNames w honest old mid settled
     → Creates w honest name mid mid new result → Creates w honest name old mid new result
 creates_then w honest name old mid new settled result settles creates = record {
   after = creates.after;
   images = λ h. then_adds w _ old mid new settles.store (settles.images_a h) (settles.images_b h) (creates.images h);
 }
 
-pub drops_then : {D : Type 0} (T : Type 0) (w : Watch D) (honest : Type 0) (name : List ℕ) (old mid new : NamesKept D) (settled : Result (Unit {0}) NamesRefused) (result : Result T NamesRefused) → Settles w honest old mid settled
+pub drops_then : {D : Type 0} (T : Type 0) (w : Watch D) (honest : Type 0) (name : List ℕ) (old mid new : NamesKept D) (settled : Result (Unit {0}) NamesRefused) (result : Result T NamesRefused) → SettlesNames w honest old mid settled
     → Drops w honest name mid mid new result → Drops w honest name old mid new result
 drops_then T w honest name old mid new settled result settles drops = record {
   after = drops.after;
@@ -76,12 +74,12 @@ drops_then T w honest name old mid new settled result settles drops = record {
 -- ---- the settling first, and then the call's own
 
 pub refused_first : {D : Type 0} (T : Type 0) (w : Watch D) (honest : Type 0) (P : NamesKept D → Type 0) (old mid : NamesKept D) (settled : Result (Unit {0}) NamesRefused) (refused : NamesRefused) (result : Result T NamesRefused)
-    → Settles w honest old mid settled → settled ≡ Err refused → result ≡ Err refused → SettlesFirst w honest P old mid result
-refused_first T w honest P old mid settled refused result settles is same = record { mid = mid; settled = Err refused; settles = subst (λ s. Settles w honest old mid s) is settles; own = (same, refl) }
+    → SettlesNames w honest old mid settled → settled ≡ Err refused → result ≡ Err refused → SettlesFirst w honest P old mid result
+refused_first T w honest P old mid settled refused result settles is same = record { mid = mid; settled = Err refused; settles = subst (λ s. SettlesNames w honest old mid s) is settles; own = (same, refl) }
 
 pub then_own : {D : Type 0} (T : Type 0) (w : Watch D) (honest : Type 0) (P : NamesKept D → Type 0) (old mid new : NamesKept D) (settled : Result (Unit {0}) NamesRefused) (x : Unit {0}) (result : Result T NamesRefused)
-    → Settles w honest old mid settled → settled ≡ Ok x → P mid → SettlesFirst w honest P old new result
-then_own T w honest P old mid new settled x result settles is own = record { mid = mid; settled = Ok x; settles = subst (λ s. Settles w honest old mid s) is settles; own = own }
+    → SettlesNames w honest old mid settled → settled ≡ Ok x → P mid → SettlesFirst w honest P old new result
+then_own T w honest P old mid new settled x result settles is own = record { mid = mid; settled = Ok x; settles = subst (λ s. SettlesNames w honest old mid s) is settles; own = own }
 
 -- ---- room
 
@@ -243,7 +241,7 @@ pub rewrites_so : {D : Type 0} (w : Watch D) (honest : Type 0) (old new : NamesK
     → (honest → OnOk r (IsRewritten w names_sense new)) → OnOk r (new.store.epoch ≡ old.store.epoch + 1)
     → (old.store.epoch ≡ 2 ^ 64 - 1 → (r ≡ Err kept.EpochSpent) ⊎ (r ≡ Err kept.Memory))
     → (honest → Since w (Spells old.store.kind old.store.number) (StandsFor names_sense old.held) (w.moment (area_a old.store)) (w.moment (area_b old.store)) (area_a new.store) (area_b new.store))
-    → Rewrites w honest old new result
+    → RewritesNames w honest old new result
 rewrites_so w honest old new r result passed clear after ok epoch spent images = record {
   after = by_after r passed after epoch;
   ok = λ h. by_ok r passed (ok h);

@@ -1,6 +1,6 @@
 -- The frames of a store of names stand for names: their numbers differ and are below the next one, and no two have one name.
 use Rattle.std.proofs.Common.{◌≡◌, ℕ, ◌+◌, ◌-◌, ◌^◌, ◌<◌, ◌≤◌, List, [], ◌∷◌, ◌++◌, Bool, true, false, not, ◌&&◌, ◌||◌, map, filter, Option, Some, None, refl, sym, ap, ◌∙◌, subst, arith, IsPermutation}
-use Rattle.std.specs.Prelude.{All, AllPairs, IsTrue, IsFalse, ◌==◌, nat_lt}
+use Rattle.std.specs.Prelude.{All, AllPairs, IsFalse, ◌==◌, nat_lt}
 use Rattle.std.specs.List.{list_all, list_any, last_or, Contains, AllByRecursion, IsDistinct}
 use Rattle.std.specs.Ordering.{is_lt, is_eq}
 use Rattle.std.proofs.lemmas.Bool.Decides.{nat_tests}
@@ -11,13 +11,13 @@ use Rattle.std.proofs.lemmas.List.Sorted.{All-permutation}
 use Rattle.std.proofs.lemmas.Map.Keys.{IsDistinct-from_apart, IsDistinct-IsPermutation, apart_from_distinct}
 use Rattle.tab_keys.specs.Order.{name_cmp}
 use Rattle.tab_rows.proofs.Lists.{AllPairs-head, AllPairs-tail}
-use Rattle.tab_page.proofs.RisingLists.{AllPairs-nil, AllPairs-weaker, All-from_each, Contains-here, Contains-there}
+use Rattle.tab_page.proofs.RisingLists.{AllPairs-nil, All-from_each, Contains-here, Contains-there}
 use Rattle.tab_codec.specs.declared.frames.Frame.{Frame}
 use Rattle.tab_codec.specs.declared.frames.Frame.TheVariants as frames
 use Rattle.tab_codec.specs.Frames.{HasSpelling}
 use Rattle.tab_journal.specs.Areas.{AreFrames}
 use Rattle.tab_journal.specs.Told.{NamesTold, names_takes, names_after, takes_names, is_taken, are_new, last_number, is_above}
-use Rattle.tab_journal.specs.Fitting.{told_first, told_by, takes, takes_all, after, after_all, is_whole_store}
+use Rattle.tab_journal.specs.Fitting.{told_by, takes, takes_all, after, after_all, is_whole_store}
 use Rattle.tab_journal.specs.declared.fitting.Told.{Told}
 use Rattle.tab_journal.specs.declared.fitting.Told.TheVariants as told
 use Rattle.tab_journal.proofs.Fronts.{and_true}
@@ -30,7 +30,7 @@ use Rattle.tab_journal.specs.Stores.{StoreView, current_area}
 use Rattle.tab_master.specs.NamesCalls.{NamesKept}
 use Rattle.tab_master.specs.Names.{NamesView, NamesStand}
 use Rattle.tab_master.specs.Listing.{listing_of}
-use Rattle.tab_master.proofs.OrderedLaws.{in_order-elements, in_order-is, rises_from_elements, ties_flip, sorted_otherwise}
+use Rattle.tab_master.proofs.OrderedLaws.{in_order-elements, in_order-is, rises_from_elements, sorted_otherwise}
 use Rattle.tab_master.proofs.SpellingLaws.{by_name_total}
 use Rattle.tab_master.proofs.ListingLaws.{first_is_names}
 

@@ -5,3 +5,6 @@ pub mod Names
 pub mod NamesCalls
 pub mod NamesOpening
 pub mod Listing
+pub mod Maps
+pub mod MapListing
+pub mod RangeMaps

@@ -1,5 +1,5 @@
 -- What a call on the names leaves, by its answer, and where its refusals come from.
-use Rattle.std.specs.Prelude.{◌≡◌, ℕ, ◌+◌, ◌-◌, ◌^◌, ◌<◌, ◌≤◌, ◌⊎◌, List, Bool, true, false, Option, None, Some, Result, Ok, Err, OnOk}
+use Rattle.std.specs.Prelude.{◌≡◌, ℕ, ◌+◌, ◌-◌, ◌^◌, ◌<◌, ◌≤◌, ◌⊎◌, List, Bool, true, false, None, Some, Result, Ok, Err, OnOk}
 use Rattle.std.specs.Option.{is_some}
 use Rattle.tab_outside.specs.Disks.{Watch}
 use Rattle.tab_outside.specs.Pairs.{Extends, AddsNone, Since}
@@ -66,7 +66,7 @@ AfterSettle old new (Err _) = ⊥
 -- ---- what a call does after it has settled names that had failed
 
 -- the settling, and how it left the names: as they were, where they had not failed
-pub record Settles {D : Type 0} (w : Watch D) (honest : Type 0) (old mid : NamesKept D) (settled : Result Unit NamesRefused) : Type 0 where
+pub record SettlesNames {D : Type 0} (w : Watch D) (honest : Type 0) (old mid : NamesKept D) (settled : Result Unit NamesRefused) : Type 0 where
   pub after : AfterSettle old mid settled
   pub same : old.failed ≡ false → mid ≡ old
   pub store : IsSameStore old.store mid.store
@@ -83,7 +83,7 @@ GoesOn mid new (Err refused) result own = (result ≡ Err refused) × (new ≡ m
 pub record SettlesFirst {D T : Type 0} (w : Watch D) (honest : Type 0) (P : NamesKept D → Type 0) (old new : NamesKept D) (result : Result T NamesRefused) : Type 0 where
   pub mid : NamesKept D
   pub settled : Result Unit NamesRefused
-  pub settles : Settles w honest old mid settled
+  pub settles : SettlesNames w honest old mid settled
   pub own : GoesOn mid new settled result (P mid)
 
 -- ---- a name more or less, of names that run
@@ -167,7 +167,7 @@ AfterRewrite old new (Err Memory) = new ≡ old
 AfterRewrite old new (Err _) = ⊥
 
 -- the names that the settling left were rewritten; each pair of images since the rewriting began spells frames that stand for them
-pub record Rewrites {D T : Type 0} (w : Watch D) (honest : Type 0) (mid new : NamesKept D) (result : Result T NamesRefused) : Type 0 where
+pub record RewritesNames {D T : Type 0} (w : Watch D) (honest : Type 0) (mid new : NamesKept D) (result : Result T NamesRefused) : Type 0 where
   pub after : AfterRewrite mid new result
   pub ok : honest → OnOk result (IsRewritten w names_sense new)
   pub spent : mid.store.epoch ≡ 2 ^ 64 - 1 → (result ≡ Err EpochSpent) ⊎ (result ≡ Err Memory)

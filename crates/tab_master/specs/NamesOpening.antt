@@ -1,9 +1,9 @@
 -- What an opening of names answers.
-use Rattle.std.specs.Prelude.{◌≡◌, ℕ, List, Result, Ok, Err, None, false}
+use Rattle.std.specs.Prelude.{◌≡◌, ℕ, Result, Ok, Err}
 use Rattle.tab_outside.specs.Disks.{Watch}
 use Rattle.tab_outside.specs.Pairs.{AddsNone}
 use Rattle.tab_journal.specs.Reading.{Found}
-use Rattle.tab_journal.specs.Stores.{area_a, area_b, current_area, HasFrames}
+use Rattle.tab_journal.specs.Stores.{area_a, area_b, current_area}
 use Rattle.tab_journal.specs.Keeping.{IsSound}
 use Rattle.tab_journal.specs.declared.refusals.Back.{Back}
 use Rattle.tab_journal.specs.declared.refusals.StoreRefused.TheVariants.{NotAStore}

@@ -12,7 +12,7 @@ ghost use Rattle.tab_history.specs.World.{table_of, names_from};
 ghost use Rattle.tab_master.specs.Ordered.{in_order};
 ghost use Rattle.tab_master.specs.Spelled.{by_number, AreNames};
 ghost use Rattle.tab_master.specs.Names.{names_sense, NamesGoOn, NamesReady};
-ghost use Rattle.tab_master.specs.NamesCalls.{IsNames, IsNumberFor, AfterStep, AfterSettle, SettlesFirst, Creates, Drops, Rewrites, NamesCauses, IsOwnDamage};
+ghost use Rattle.tab_master.specs.NamesCalls.{IsNames, IsNumberFor, AfterStep, AfterSettle, SettlesFirst, Creates, Drops, RewritesNames, NamesCauses, IsOwnDamage};
 ghost use Rattle.tab_master.specs.declared.refusals.NamesRefused.TheVariants.{Damaged};
 
 use crate::refusals::names_refused;
@@ -137,7 +137,7 @@ impl<D: Disk> Names<D> {
     pub fn checkpoint(&mut self, alloc: Global) -> Result<(), NamesRefused>
         requires sound { D.honest → IsSound D.watch names_sense self.old }
         ensures sound { D.honest → IsSound D.watch names_sense self.new }
-        ensures after { SettlesFirst D.watch D.honest (λ mid. Rewrites D.watch D.honest mid self.new result) self.old self.new result }
+        ensures after { SettlesFirst D.watch D.honest (λ mid. RewritesNames D.watch D.honest mid self.new result) self.old self.new result }
         ensures never { D.honest → (disk at : ℕ) → result ≡ Err (Damaged disk at) → ⊥ }
         ensures damaged { IsOwnDamage result }
         ensures same { IsSameStore self.old.store self.new.store }
@@ -328,7 +328,7 @@ impl<D: Disk> Names<D> {
         requires running { IsFalse self.old.failed }
         requires sound { D.honest → IsSound D.watch names_sense self.old }
         ensures sound { D.honest → IsSound D.watch names_sense self.new }
-        ensures rewrites { Rewrites D.watch D.honest self.old self.new result }
+        ensures rewrites { RewritesNames D.watch D.honest self.old self.new result }
         ensures same { IsSameStore self.old.store self.new.store }
         ensures stops { KeepsStops D.has_stops self.old.store self.new.store }
         ensures causes { NamesCauses D.faults self.old self.new result }

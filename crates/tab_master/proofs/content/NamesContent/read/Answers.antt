@@ -1,11 +1,10 @@
-use Rattle.std.proofs.Common.{rules, ◌≡◌, List, AllPairs, IsTrue, Some, None, sym, ◌∙◌, ap, subst, arith}
-use Rattle.std.specs.Ordering.{is_lt}
+use Rattle.std.proofs.Common.{rules, ◌≡◌, List, Some, sym, subst, arith}
 use Rattle.tab_history.specs.World.{Named}
-use Rattle.tab_master.specs.Spelled.{SpelledNames, AreNames, by_name, names_kind}
+use Rattle.tab_master.specs.Spelled.{SpelledNames, AreNames, names_kind}
 use Rattle.tab_master.specs.Names.{NamesStand}
 use Rattle.tab_master.specs.Listing.{listing_of}
 use Rattle.tab_journal.specs.Fitting.{told_by}
-use Rattle.tab_master.proofs.NamesReadLaws.{IsReadFrom, listing_there, read_from, is_some_from}
+use Rattle.tab_master.proofs.NamesReadLaws.{listing_there, read_from, is_some_from}
 use Rattle.tab_master.proofs.content.NamesContent.read.Goals as goal
 
 pub unwrap-listing-requires : goal.unwrap-listing-requires

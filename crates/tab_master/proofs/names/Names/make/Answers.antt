@@ -1,4 +1,4 @@
-use Rattle.std.proofs.Common.{rules, ◌≡◌, ℕ, Result, Err, Ok, sym, ◌∙◌, ap, subst, refl}
+use Rattle.std.proofs.Common.{rules, ◌≡◌, ℕ, Result, Err, sym, ◌∙◌, ap, subst}
 use Rattle.tab_outside.specs.Pairs.{Extends}
 use Rattle.tab_journal.specs.Areas.{Spells}
 use Rattle.tab_journal.specs.Stores.{area_a, area_b}

@@ -1,4 +1,4 @@
-use Rattle.std.proofs.Common.{rules, ◌≡◌, Some, sym, ◌∙◌}
+use Rattle.std.proofs.Common.{sym}
 use Rattle.tab_master.proofs.DropLaws.{drop_goes_on}
 use Rattle.tab_master.proofs.NamesCallLaws.{dropped_so}
 use Rattle.tab_master.proofs.names.Names.take.Goals as goal
