@@ -215,7 +215,7 @@ all_fit ranges (one ∷ held) each =
     subst (λ (xs : List Frame). takes_all (told.Server ranges) xs ≡ true) (sym (flat_map-cons range_frames one held))
     (fits_behind ranges (range_frames one) (checkpoint_frames held) (range_fits ranges one each.0) (all_fit (told_after ranges (range_frames one)) held each.1))
 
-server_first : told_first 2 ≡ told.Server []
+pub server_first : told_first 2 ≡ told.Server []
 unfolding told_first
 server_first = refl
 

@@ -132,7 +132,7 @@ agree_still : (b : Bool) (x : Option RangeTold) (u v : Option SpelledRange) → 
 agree_still true x u v h k = h
 agree_still false x u v h k = k
 
-agree_next : (number : ℕ) (ranges : List RangeTold) (so_far : Option SpelledRange) (frame : Frame) → Agree (begun ranges number) so_far
+pub agree_next : (number : ℕ) (ranges : List RangeTold) (so_far : Option SpelledRange) (frame : Frame) → Agree (begun ranges number) so_far
     → Agree (begun (server_after ranges frame) number) (spelled_next number so_far frame)
 unfolding server_after
 agree_next number ranges so_far (frames.Begin range span next_tick) h =

@@ -7,4 +7,14 @@ pub mod Checkpoints
 pub mod ChangeLaws
 pub mod Filling
 pub mod Holding
+pub mod SettlingLaws
+pub mod MarkLaws
+pub mod MarkReady
+pub mod MarkServer
 pub mod Accepted
+pub mod ActLaws
+pub mod ActCalls
+pub mod ActSettled
+pub mod Inside
+pub mod Placing
+pub mod Recovered
