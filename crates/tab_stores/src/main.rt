@@ -6,6 +6,8 @@ mod counters;
 mod disks;
 mod frames;
 mod keeping;
+mod map_calls;
+mod mapping;
 mod name_calls;
 mod naming;
 mod runs;
@@ -22,7 +24,7 @@ use stops::Stop;
 use walks::Walk;
 
 /// The files, in the order in which they are run.
-const FILES: [&str; 7] = [
+const FILES: [&str; 8] = [
     "makings",
     "appends",
     "compactions",
@@ -30,6 +32,7 @@ const FILES: [&str; 7] = [
     "counters",
     "yards",
     "names",
+    "maps",
 ];
 
 /// The status where an answer differs from the written one.
