@@ -41,12 +41,12 @@ use Rattle.tab_server.specs.declared.refusals.ActRefused.TheVariants as refused
 use Rattle.tab_server.specs.declared.steps.RangeChange.{RangeChange}
 use Rattle.tab_server.specs.declared.ranges.Marked.{Marked}
 use Rattle.tab_server.specs.Replays.{SpellsEach}
-use Rattle.tab_server.specs.Contents.{told_ranges, with_change, is_whole, IsHolding, IsUncounted, StandsAt, ChangeFits, IsAcceptedChange, IsReadyFor, ranges_sense}
+use Rattle.tab_server.specs.Contents.{told_ranges, with_change, IsHolding, IsUncounted, StandsAt, ChangeFits, IsAcceptedChange, IsReadyFor, ranges_sense}
 use Rattle.tab_server.specs.Serving.{ServerView, range_of, range_for, is_for, takes_commands, at_number, with_spare, with_tally, IsServed, IsServer}
 use Rattle.tab_server.specs.ServerCauses.{ServerCauses, IsRangeDenial, act_refused, denied_as}
 use Rattle.tab_server.specs.Acting.{IsStill, IsTold, IsChangeOf, StepImages, IsReadyToAct, AnswersAfter, Replies}
 use Rattle.tab_server.proofs.Accepted.{fits_answer}
-use Rattle.tab_server.proofs.ActLaws.{still_told, found_roomed, no_place, read_at, one_set, found_at, placed, has_number, set_at, told_at}
+use Rattle.tab_server.proofs.ActLaws.{whole_mark, still_told, found_roomed, no_place, read_at, one_set, found_at, placed, has_number, set_at, told_at}
 
 -- ---- the range that is for a command
 
@@ -77,11 +77,6 @@ is_meant held key marked found =
     let parts = meant_by (takes_commands marked.mark) marked.range.tally (has marked.range.span key) (find_holds (is_for key) held marked found) in
     record { takes = parts.0; tally = parts.1; inside = parts.2 }
 
-whole_by : (mark : Mark) → takes_commands mark ≡ true → is_whole mark ≡ true
-whole_by Serving takes = refl
-whole_by Sealed takes = refl
-whole_by (Copy whole) takes = absurd cc
-
 -- ---- a change that is asked for
 
 abbrev pub step_of : ℕ → Command → Changes → ℕ → RangeChange
@@ -98,7 +93,7 @@ pub is_accepted : {T : Type 0} (held : List (Marked T)) (range : ℕ) (command :
 is_accepted held range command changes now marked asked =
     let meant = is_meant held (command_key command) marked asked.served.meant in
     let at = placed held range marked asked.served.number in
-    record { place = at.0; marked = marked; stands = at.1; whole = whole_by marked.mark meant.takes; inside = meant.inside; due = asked.due; of = asked.of }
+    record { place = at.0; marked = marked; stands = at.1; whole = whole_mark marked.mark meant.takes; inside = meant.inside; due = asked.due; of = asked.of }
 
 pub asked_fits : {T : Type 0} (held : List (Marked T)) (range : ℕ) (command : Command) (changes : Changes) (now : ℕ) (marked : Marked T) → IsAsked held range command changes now marked
     → ChangeFits (told_ranges held) (step_of range command changes now)
@@ -417,9 +412,9 @@ module _ {D T : Type 0} (drawn : T → Stroke Told → T → Type 0) (ready : T 
   roomed_stands inside lent new range is kept =
       still_told drawn ready kin inside.held new inside.doubt (ap told_ranges kept.1 ∙ told_at range (with_spare kept.0) (λ m. refl) lent ∙ ap told_ranges is)
 
-  pub tallied_told : (inside old : ServerView D T) (lent new : List (Marked T)) (range : ℕ) (command : Command) (now : ℕ) → inside ≡ old → lent ≡ inside.held → IsTallied drawn ready kin range command now lent new
+  pub stroke_told : (inside old : ServerView D T) (lent new : List (Marked T)) (range : ℕ) (command : Command) (now : ℕ) → inside ≡ old → lent ≡ inside.held → IsTallied drawn ready kin range command now lent new
       → (marked : Marked T) × (range_for old.held (command_key command) ≡ Some marked) × IsTold drawn ready kin marked command now old (record inside { held = new })
-  tallied_told inside old lent new range command now same is told =
+  stroke_told inside old lent new range command now same is told =
       let lent_is : lent ≡ old.held = is ∙ ap (λ (k : ServerView D T). k.held) same in
       let number : range ≡ told.0.range.id = sym (has_number lent range told.0 told.2.number) in
       let held : new ≡ at_number told.0.range.id (with_tally told.1) inside.held = told.3 ∙ ap (λ n. at_number n (with_tally told.1) lent) number ∙ ap (at_number told.0.range.id (with_tally told.1)) is in (

@@ -11,9 +11,11 @@ use Rattle.tab_range.specs.declared.commands.Told.{Told}
 use Rattle.tab_range.specs.Ranges.{RangeView}
 use Rattle.tab_journal.specs.Keeping.{IfDoubt, StandsStill}
 use Rattle.tab_server.specs.Replays.{SpelledRange, SpellsEach}
-use Rattle.tab_server.specs.Contents.{told_of, told_ranges, numbers, with_change, StandsAt, IsHolding, IsUncounted, ranges_sense}
-use Rattle.tab_server.specs.Serving.{range_of, at_number, with_spare}
+use Rattle.tab_server.specs.Contents.{is_whole, told_of, told_ranges, numbers, with_change, StandsAt, IsHolding, IsUncounted, ranges_sense}
+use Rattle.tab_server.specs.Serving.{takes_commands, range_of, at_number, with_spare}
 use Rattle.tab_server.specs.declared.steps.RangeChange.{RangeChange}
+use Rattle.tab_server.specs.declared.marks.Mark.{Mark}
+use Rattle.tab_server.specs.declared.marks.Mark.TheVariants.{Serving, Sealed, Copy}
 use Rattle.tab_server.specs.declared.ranges.Marked.{Marked}
 use Rattle.tab_server.proofs.Holding.{still_holding}
 
@@ -137,19 +139,16 @@ still_told drawn ready kin old new doubt same = record { still = λ frames stand
 
 -- ---- what calls on what is held find
 
-none_found : {T : Type 0} (held : List (Marked T)) (range : ℕ) → All (λ m. m.range.id ≢ range) held → range_of held range ≡ None
-none_found [] range none = refl
-none_found (first ∷ held) range none =
+pub no_place : {T : Type 0} (held : List (Marked T)) (range : ℕ) → All (λ m. m.range.id ≢ range) held → range_of held range ≡ None
+no_place [] range none = refl
+no_place (first ∷ held) range none =
     let here : first.range.id ≢ range = All-head (λ (m : Marked _). m.range.id ≢ range) first held none in
     let other : (first.range.id == range) ≡ false = differs first.range.id range here (first.range.id == range) refl in
-    rw other (none_found held range (All-tail (λ (m : Marked _). m.range.id ≢ range) first held none))
+    rw other (no_place held range (All-tail (λ (m : Marked _). m.range.id ≢ range) first held none))
   where
     differs : (a b : ℕ) → a ≢ b → (t : Bool) → (a == b) ≡ t → (a == b) ≡ false
     differs a b apart false e = e
     differs a b apart true e = absurd (apart (grind (arith, nat_tests)))
-
-pub no_place : {T : Type 0} (held : List (Marked T)) (range : ℕ) → All (λ m. m.range.id ≢ range) held → range_of held range ≡ None
-no_place held range none = none_found held range none
 
 pub placed_within : {T : Type 0} (items held : List (Marked T)) (range place : ℕ) → items ≡ held → ((found : Marked T) × StandsAt held range place found) → place < length items
 placed_within items held range place same found = slice_get_within items place found.0 (ap (λ (xs : List (Marked _)). slice_get xs place) same ∙ found.1.here)
@@ -192,3 +191,9 @@ spare_set items held range place marked new same holding found is kept =
 pub reserved_room : {T E : Type 0} (after : List (Marked T)) (range : ℕ) (one : Marked T) (more : ℕ) (result : Result ⊤ E) → range_of after range ≡ Some one → OnOk result (more ≤ one.range.spare) → OnOk result (IfSome (range_of after range) (λ m. more ≤ m.range.spare))
 reserved_room after range one more (Ok x) found room = subst (λ (o : Option (Marked _)). IfSome o (λ m. more ≤ m.range.spare)) (sym found) room
 reserved_room after range one more (Err e) found room = tt
+
+-- a range that takes commands is whole
+pub whole_mark : (mark : Mark) → takes_commands mark ≡ true → is_whole mark ≡ true
+whole_mark Serving takes = refl
+whole_mark Sealed takes = refl
+whole_mark (Copy whole) takes = absurd cc

@@ -25,6 +25,11 @@ use Rattle.tab_server.specs.Serving.{ServerView, range_of, range_for, is_for, is
 use Rattle.tab_server.specs.Acting.{AfterSettle, IsSettledTo, Settles, IsReadyToAct, AnswersAfter, Answers, ActsAt, ActsUnlessSealed, Acts}
 use Rattle.tab_server.proofs.ActLaws.{found_at, set_at, find_at, at_one, has_number}
 
+-- where nothing is in doubt, no change of a range is
+none_doubted : (d : Option RangeChange) (n : ℕ) → d ≡ None → IsTrue (is_in_doubt d n) → ⊥
+none_doubted None n e h = absurd cc
+none_doubted (Some step) n e h = absurd cc
+
 -- a range with other rows, next tick and room, whose tally, where it has one, is this one
 abbrev as_changed : {T : Type 0} → RangeView T → T → Marked T → Marked T
 as_changed new tally marked = record marked { range = record marked.range { rows = new.rows; next_tick = new.next_tick; spare = new.spare; tally = option_map (λ t. tally) marked.range.tally } }
@@ -70,10 +75,6 @@ module _ {D T : Type 0} (drawn : T → Stroke Told → T → Type 0) (ready : T 
       λ doubted. absurd (none_doubted new.doubt m.range.id clear doubted),
     );
   }
-    where
-      none_doubted : (d : Option RangeChange) (n : ℕ) → d ≡ None → IsTrue (is_in_doubt d n) → ⊥
-      none_doubted None n e h = absurd cc
-      none_doubted (Some step) n e h = absurd cc
 
   -- after a change the tally of the range that is for the command is ready
   ready_by : (old : ServerView D T) (after : List (Marked T)) (range : ℕ) (command : Command) (marked : Marked T) (step : RangeChange) → IsHolding old.held → IsServed old.held range command marked → IsReadyToAct drawn ready kin old command
@@ -115,10 +116,6 @@ module _ {D T : Type 0} (drawn : T → Stroke Told → T → Type 0) (ready : T 
       by_mark m tally both has_tally =
           let same : at_one step.range (as_changed ch.range ch.drew.to) marked ≡ m = cc in
           ready_by old new.held range command marked step holding served ready_to doubt ch (marked.range.id == step.range) refl tally (ap (λ (x : Marked T). x.range.tally) same ∙ has_tally)
-
-      none_doubted : (d : Option RangeChange) (n : ℕ) → d ≡ None → IsTrue (is_in_doubt d n) → ⊥
-      none_doubted None n e h = absurd cc
-      none_doubted (Some step) n e h = absurd cc
 
   -- a range that was for a command is for it after a settling
   pub served_settled : (old new : ServerView D T) (range : ℕ) (command : Command) (marked : Marked T) → IsHolding old.held → IsServed old.held range command marked → IsReadyToAct drawn ready kin old command

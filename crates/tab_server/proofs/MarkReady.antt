@@ -21,7 +21,7 @@ use Rattle.tab_server.specs.declared.marks.Mark.{Mark}
 use Rattle.tab_server.specs.declared.marks.Mark.TheVariants.{Serving, Sealed, Copy}
 use Rattle.tab_server.specs.declared.ranges.Marked.{Marked}
 use Rattle.tab_server.specs.declared.steps.RangeChange.{RangeChange}
-use Rattle.tab_server.proofs.ActLaws.{found_at}
+use Rattle.tab_server.proofs.ActLaws.{whole_mark, found_at}
 use Rattle.tab_server.proofs.MarkLaws.{IsPlaced, placed_alone, placed_holding}
 
 -- ---- a change in doubt
@@ -100,11 +100,6 @@ get_set (z ∷ xs) (suc i) x y here = get_set xs i x y here
 
 pub placed_told : {T : Type 0} (items held : List (Marked T)) (range place : ℕ) (marked after : Marked T) → IsPlaced items held range place marked → told_of after ≡ told_of marked → told_ranges (set items place after) ≡ told_ranges held
 placed_told items held range place marked after at same = map-set_same told_of items place after marked (same ∙ ap told_of at.is) ∙ ap told_ranges at.same
-
-whole_mark : (mark : Mark) → IsTrue (takes_commands mark) → is_whole mark ≡ true
-whole_mark Serving h = refl
-whole_mark Sealed h = refl
-whole_mark (Copy whole) h = absurd (true≢false (sym h))
 
 free_mark : {T : Type 0} (mark : Mark) (tally : Option T) → IsTrue (takes_commands mark) → IsUncounted mark tally
 free_mark Serving tally h = tt
