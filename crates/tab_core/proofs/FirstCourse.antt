@@ -1,12 +1,10 @@
 -- A store that was just made keeps what every course keeps.
-use Rattle.std.proofs.Common.{◌≡◌, ℕ, ◌<◌, ◌≤◌, [], refl, inl, true, arith, All}
+use Rattle.std.proofs.Common.{ℕ, ◌<◌, ◌≤◌, [], refl, inl, arith, All}
 use Rattle.std.proofs.lemmas.List.Elements.{All-cons, All-nil}
-use Rattle.tab_keys.specs.declared.keys.Key.{Key}
 use Rattle.tab_history.specs.World.{IsWorld, floor_of}
-use Rattle.tab_history.specs.Doubts.{Accepts, AreOpen}
 use Rattle.tab_history.specs.Configurations.{next_tick_of, MapRow}
 use Rattle.tab_history.specs.Ranges.{IsNextTickIn}
-use Rattle.tab_core.specs.Courses.{IsCourse, IsMap, first_world, first_config, first_course, first_row}
+use Rattle.tab_core.specs.Courses.{IsCourse, IsConfiguration, IsMap, first_state, first_world, first_config, first_course, first_row}
 
 pub is_world : IsWorld first_world
 is_world = record {
@@ -34,17 +32,21 @@ is_next : IsNextTickIn first_world.floors first_row.span (next_tick_of first_con
 unfolding floor_of next_tick_of
 is_next = record { above = λ key inside. omega arith; reached = inl refl }
 
+is_configuration : (servers : ℕ) → 1 ≤ servers → IsConfiguration servers first_state first_config
+is_configuration servers least = record {
+  map = is_map servers least;
+  ticks = one (λ row. IsNextTickIn first_world.floors row.span (next_tick_of first_config.next_ticks row.range)) is_next;
+  ticks_next = λ k d within. absurd (omega (arith, within));
+  stores_differ = λ i j d less within. absurd (omega (arith, within));
+}
+
 pub is_course : (servers : ℕ) → 1 ≤ servers → IsCourse servers first_course
 is_course servers least = record {
   world = is_world;
   doubts = record { acceptable = λ k d within. absurd (omega (arith, within)); apart = λ i j d less within. absurd (omega (arith, within)) };
   tables = (λ k d within. absurd (omega (arith, within)), λ k d within. absurd (omega (arith, within)));
   groups = λ k d within. absurd (omega (arith, within));
-  ticks_next = λ k d within. absurd (omega (arith, within));
   asks_differ = λ i j d less within. absurd (omega (arith, within));
-  map = is_map servers least;
-  commit = tt;
-  map_in_doubt = tt;
-  ticks = one (λ row. IsNextTickIn first_world.floors row.span (next_tick_of first_config.next_ticks row.range)) is_next;
+  config = is_configuration servers least;
   pending_differ = λ i j d less within. absurd (omega (arith, less, within));
 }

@@ -1,5 +1,5 @@
 -- The frames with which the stores begin are frames of their kinds, and spell what a store that was just made is to spell.
-use Rattle.std.proofs.Common.{◌≡◌, ℕ, ◌≤◌, zero, suc, List, [], ◌∷◌, length, refl, sym, subst, true, inl, arith, All, lit≤}
+use Rattle.std.proofs.Common.{◌≡◌, ℕ, zero, suc, List, [], refl, sym, subst, true, inl, arith, lit≤}
 use Rattle.std.specs.List.{AllByRecursion}
 use Rattle.std.proofs.lemmas.List.Elements.{All-cons, All-nil}
 use Rattle.tab_codec.specs.Spelling.{body, bound_spelling, span_spelling, range_row_spelling, sized}
@@ -12,11 +12,11 @@ use Rattle.tab_journal.specs.Stores.{StoreView, area_a, area_b, HasFrames}
 use Rattle.tab_journal.proofs.Keeping.{frames_now}
 use Rattle.tab_journal.specs.Fitting.{takes_all, told_first, told_by, is_whole_store, takes, after, after_all}
 use Rattle.tab_journal.specs.Told.{map_takes, map_after, names_takes, names_after, server_takes, server_after, numbers_differ, are_new, at_range}
-use Rattle.tab_history.specs.Configurations.{MapRow, next_tick_of}
+use Rattle.tab_history.specs.Configurations.{next_tick_of}
 use Rattle.tab_core.specs.Courses.{first_course, first_row, first_config, first_state, first_world}
 use Rattle.tab_master.specs.Ordered.{placed, placed_all}
 use Rattle.tab_master.specs.Spelled.{spelled_map, spelled_names, next_plan_by}
-use Rattle.tab_core.specs.Points.{Point, MapPoint, NamesPoint, ServerPoint, RangePoint, RangesPoint, SpellsMap, SpellsNames, SpellsRange, held_in, kind_of, number_of}
+use Rattle.tab_core.specs.Points.{Point, MapPoint, NamesPoint, RangePoint, RangesPoint, SpellsRange, held_in, kind_of, number_of}
 use Rattle.tab_core.specs.Making.{first_frames, IsMade}
 
 pub orderly : (store : ℕ) → AllByRecursion IsOrderly (first_frames store)

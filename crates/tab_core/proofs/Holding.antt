@@ -1,9 +1,9 @@
 -- When the disks of a yard hold a course.
-use Rattle.std.proofs.Common.{◌≡◌, ◌≢◌, ℕ, zero, suc, ◌+◌, ◌*◌, ◌<◌, ◌≤◌, List, [], ◌∷◌, ◌++◌, length, refl, sym, ◌∙◌, subst, arith, inl, inr, Option, Some, None, All, length-append}
-use Rattle.std.specs.Prelude.{◌⊎◌, slice_get}
+use Rattle.std.proofs.Common.{◌≡◌, ℕ, zero, suc, ◌+◌, ◌*◌, ◌≤◌, List, [], ◌∷◌, ◌++◌, length, refl, sym, ◌∙◌, subst, arith, inl, inr, Some, All, length-append}
+use Rattle.std.specs.Prelude.{slice_get}
 use Rattle.std.specs.List.{AllZip}
 use Rattle.tab_outside.specs.Disks.{Watch, Rests, ReadsImage}
-use Rattle.tab_outside.specs.Pairs.{Now, Tells}
+use Rattle.tab_outside.specs.Pairs.{Now}
 use Rattle.tab_outside.proofs.Moments.{now_weaker}
 use Rattle.tab_codec.specs.declared.frames.Frame.{Frame}
 use Rattle.tab_journal.specs.Areas.{ShutAt, Spells}
@@ -21,6 +21,7 @@ made_hold w yard servers least size made = record {
   servers = servers;
   size = size;
   is = is_course servers least;
+  in_doubt = tt;
   stores = λ k pair is.
       now_weaker w (Spells (kind_of k) (number_of k)) (λ frames. frames ≡ first_frames k) (Point first_course k) pair.0 pair.1
       (λ frames same. subst (λ (fs : List Frame). Point first_course k fs) (sym same) (first_point k)) (made k pair is);
@@ -56,6 +57,7 @@ still_hold w course old new zip holds = record {
   servers = holds.servers;
   size = sym (zip_length (Rests w) old new zip) ∙ holds.size;
   is = holds.is;
+  in_doubt = holds.in_doubt;
   stores = λ k pair is. still_now w course old k pair holds.stores (rested w old new k pair zip is);
 }
 

@@ -1,16 +1,14 @@
 -- What is known of disks of which some were asked for their lengths.
 use Rattle.std.proofs.Common.{◌≡◌, ◌≢◌, ℕ, ◌+◌, ◌<◌, ◌≤◌, List, length, get_or, set, refl, sym, subst, ◌∙◌, arith, inl, Bool, true, false, ◌==◌, get_or-set_other}
 use Rattle.std.proofs.lemmas.List.{get_or_default}
-use Rattle.std.specs.Prelude.{◌⊎◌}
-use Rattle.std.specs.List.{All, AllZip}
+use Rattle.std.specs.List.{AllZip}
 use Rattle.std.specs.Prelude.{ltb, Result, Err}
 use Rattle.tab_core.specs.declared.cores.InitRefused.{InitRefused}
 use Rattle.tab_core.specs.declared.cores.InitRefused.TheVariants.{DiskFault}
 use Rattle.std.proofs.lemmas.Bool.{eqb-true, eqb-false, ltb-true, ltb-false}
 use Rattle.tab_outside.specs.Disks.{Watch, Rests}
-use Rattle.tab_outside.specs.Faults.{Rose}
-use Rattle.tab_core.specs.Making.{IsFirstFilled, RoseAt}
-use Rattle.tab_core.proofs.Zips.{zip_same, zip_set, zip_length}
+use Rattle.tab_core.specs.Making.{IsFirstFilled}
+use Rattle.tab_core.proofs.Zips.{zip_same, zip_set}
 
 rests_same : {D : Type 0} (w : Watch D) (disk : D) → Rests w disk disk
 rests_same w disk = record {

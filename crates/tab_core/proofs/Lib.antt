@@ -6,3 +6,12 @@ pub mod FirstFrames
 pub mod Yards
 pub mod Holding
 pub mod Refusals
+pub mod Staying
+pub mod Sorting
+pub mod Views
+pub mod Settling
+pub mod Opening
+pub mod Reopening
+pub mod Images
+pub mod Remembering
+pub mod Stores

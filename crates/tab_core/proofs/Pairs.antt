@@ -1,5 +1,5 @@
 -- The stores of a yard, two disks each.
-use Rattle.std.proofs.Common.{◌≡◌, ℕ, zero, suc, ◌+◌, ◌*◌, List, [], ◌∷◌, ◌++◌, length, refl, sym, subst, arith, inl, inr, Option, Some, None, unwrap_or, ap}
+use Rattle.std.proofs.Common.{◌≡◌, ℕ, zero, suc, ◌*◌, List, [], ◌∷◌, ◌++◌, length, refl, sym, subst, arith, inl, inr, Option, Some, unwrap_or, ap}
 use Rattle.std.specs.Prelude.{◌⊎◌, slice_get}
 use Rattle.tab_outside.specs.Disks.{Watch}
 use Rattle.tab_core.specs.Points.{pairs_of}

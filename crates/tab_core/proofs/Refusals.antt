@@ -1,5 +1,5 @@
 -- Why no store was made.
-use Rattle.std.proofs.Common.{◌≡◌, ◌≢◌, ℕ, ◌+◌, ◌*◌, ◌<◌, ◌≤◌, List, [], ◌∷◌, length, get_or, refl, sym, ◌∙◌, ap, subst, arith, inl, inr, Bool, true, false, Result, Ok, Err, OnOk, All}
+use Rattle.std.proofs.Common.{◌≡◌, ◌≢◌, ℕ, ◌+◌, ◌*◌, ◌<◌, ◌≤◌, List, [], ◌∷◌, length, get_or, refl, ◌∙◌, ap, arith, inl, inr, Bool, true, false, Result, Ok, Err, OnOk, All}
 use Rattle.std.specs.Prelude.{◌⊎◌, ltb}
 use Rattle.std.specs.List.{AllZip}
 use Rattle.std.proofs.lemmas.Bool.{ltb-true, ltb-false}
@@ -7,7 +7,7 @@ use Rattle.tab_outside.specs.Disks.{Watch}
 use Rattle.tab_outside.specs.Faults.{Rose}
 use Rattle.tab_core.specs.Courses.{first_course}
 use Rattle.tab_core.specs.Points.{Holds}
-use Rattle.tab_core.specs.Making.{IsYard, IsFirstFilled, RoseAt, AreMade}
+use Rattle.tab_core.specs.Making.{IsFirstFilled, RoseAt, AreMade}
 use Rattle.tab_core.specs.declared.cores.InitRefused.{InitRefused}
 use Rattle.tab_core.specs.declared.cores.InitRefused.TheVariants.{NotEmpty, DiskFault, Memory}
 use Rattle.tab_core.proofs.Zips.{zip_at, zip_length}

@@ -1,5 +1,5 @@
 -- Where a store stands: what its history has come to, how its keys are spread over servers, and which requests are pending.
-use Rattle.std.specs.Prelude.{◌≢◌, ℕ, ◌<◌, ◌≤◌, List, [], ◌∷◌, false, All, AllPairs, IfSome, None, ◌≡◌, ⊤}
+use Rattle.std.specs.Prelude.{◌≢◌, ℕ, suc, ◌<◌, ◌≤◌, List, [], ◌∷◌, false, All, AllPairs, Option, Some, None, ◌≡◌, ⊤}
 use Rattle.tab_keys.specs.Spans.{Interval}
 use Rattle.tab_keys.specs.declared.bounds.Bound.TheVariants.{At, End}
 use Rattle.tab_history.specs.World.{World, IsWorld}
@@ -8,7 +8,7 @@ use Rattle.tab_history.specs.Doubts.{EachDoubt, AreOpen}
 use Rattle.tab_history.specs.Kept.{HasTablesBelow}
 use Rattle.tab_history.specs.Configurations.{MapRow, Configuration, plan_numbered, state_of, next_tick_at, committed}
 use Rattle.tab_history.specs.Tilings.{TileKeys}
-use Rattle.tab_history.specs.Ranges.{HaveOwnRanges, TicksServe}
+use Rattle.tab_history.specs.Ranges.{HaveOwnRanges, TicksServe, routed}
 use Rattle.tab_ops.specs.Groups.{IsGroup}
 use Rattle.tab_ops.specs.Changes.{group_keys}
 use Rattle.tab_history.specs.declared.entries.Doubt.{Doubt}
@@ -88,16 +88,36 @@ abbrev pub IsNotBefore : Configuration → Doubt → Type 0
 IsNotBefore config (doubt.Change table group tick) = All (λ key. next_tick_at config key ≤ tick) (group_keys table group)
 IsNotBefore config _ = ⊤
 
+-- the store of a row's server
+abbrev pub store_of_row : Option MapRow → ℕ
+store_of_row None = 0
+store_of_row (Some row) = suc (suc row.server)
+
+-- the store that an operation is about: that of the names, or that of the server that has the keys of a change
+abbrev pub store_of : Configuration → Doubt → ℕ
+store_of config (doubt.Change table group tick) = store_of_row (routed config.rows (group_keys table group))
+store_of config (doubt.Create name table) = 1
+store_of config (doubt.Drop name) = 1
+
+-- A configuration over so many servers of what a history has come to: its rows are a map, its next ticks serve for the floors and for
+-- the operations in doubt, and no two of these are about one store.
+pub record IsConfiguration (servers : ℕ) (past : State) (config : Configuration) : Type 0 where
+  pub map : IsMap servers config
+  pub ticks : TicksServe past.world.floors config
+  pub ticks_next : EachDoubt (IsNotBefore config) past.doubts
+  pub stores_differ : AllPairs (λ a b. store_of config a.1 ≢ store_of config b.1) past.doubts
+
 -- What every course of a store over so many servers keeps.
 pub record IsCourse (servers : ℕ) (course : Course) : Type 0 where
   pub world : IsWorld course.past.world
   pub doubts : AreOpen course.past.world course.past.doubts
   pub tables : HasTablesBelow course.past
   pub groups : EachDoubt IsOfGroup course.past.doubts
-  pub ticks_next : EachDoubt (IsNotBefore course.config) course.past.doubts
   pub asks_differ : AllPairs (λ a b. a.0 ≢ b.0) course.past.doubts
-  pub map : IsMap servers course.config
-  pub commit : IfSome course.past.commit (λ plan. state_of course.config.plans plan ≡ plan_state.Adopted)
-  pub map_in_doubt : IfSome course.past.commit (λ plan. IsMap servers (committed_by course.config plan))
-  pub ticks : TicksServe course.past.world.floors course.config
+  pub config : IsConfiguration servers course.past course.config
   pub pending_differ : AllPairs (λ a b. a.ask ≢ b.ask) course.pending
+
+-- where a commit is in doubt, its plan is adopted, and makes a configuration
+pub record MayCommit (servers : ℕ) (course : Course) (plan : ℕ) : Type 0 where
+  pub adopted : state_of course.config.plans plan ≡ plan_state.Adopted
+  pub config : IsConfiguration servers course.past (committed_by course.config plan)

@@ -9,8 +9,8 @@ use Rattle.tab_history.specs.World.{World}
 use Rattle.tab_history.specs.Legality.{State, acted}
 use Rattle.tab_history.specs.Configurations.{MapRow, Configuration, next_tick_of, ticked}
 use Rattle.tab_server.specs.Replays.{SpelledRange, spelled_range}
-use Rattle.tab_master.specs.Spelled.{SpelledMap, SpelledNames, spelled_map, spelled_names}
-use Rattle.tab_core.specs.Courses.{Course, IsCourse, committed_by}
+use Rattle.tab_master.specs.Spelled.{spelled_map, spelled_names}
+use Rattle.tab_core.specs.Courses.{Course, IsCourse, MayCommit, committed_by}
 
 -- ---- the map, store 0
 
@@ -95,4 +95,5 @@ pub record Holds {D : Type 0} (w : Watch D) (course : Course) (yard : List D) : 
   pub servers : ℕ
   pub size : length yard ≡ 2 * (servers + 2)
   pub is : IsCourse servers course
+  pub in_doubt : IfSome course.past.commit (MayCommit servers course)
   pub stores : HoldStores w course (pairs_of yard)

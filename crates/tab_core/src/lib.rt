@@ -2,6 +2,10 @@
 #![tactic(auto)]
 
 mod cores;
+mod laws;
 mod making;
 
 pub use cores::{Core, InitRefused};
+pub use laws::{
+    cores_hold_courses, courses_are_reopened, courses_stay, openings_are_found, steps_have_images,
+};

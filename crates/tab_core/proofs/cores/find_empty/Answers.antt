@@ -1,5 +1,4 @@
 use Rattle.std.proofs.Common.{arith, subst, sym, ◌∙◌, ◌≤◌, ℕ}
-use Rattle.std.specs.Prelude.{Err}
 use Rattle.tab_core.proofs.Lengths.{asked_begins, asked_more, later_with, rests_with, none_before, fault_is}
 use Rattle.tab_core.proofs.cores.find_empty.Goals as goal
 

@@ -1,5 +1,5 @@
-use Rattle.std.proofs.Common.{rules, ◌≡◌, ◌≤◌, ◌<◌, ◌+◌, ◌-◌, ◌*◌, ◌/◌, length, vec_len, sym, ◌∙◌, arith}
-use Rattle.tab_core.proofs.Lengths.{fault_is, refusal_is}
+use Rattle.std.proofs.Common.{rules, ◌≡◌, ◌+◌, ◌-◌, length, vec_len, sym, ◌∙◌, arith}
+use Rattle.tab_core.proofs.Lengths.{refusal_is}
 use Rattle.tab_core.proofs.Zips.{zip_same, zip_length}
 use Rattle.tab_core.proofs.Yards.{popped, zip_two, rose_below, rose_last, made_two, made_short, short_is, half_is}
 use Rattle.tab_core.proofs.making.+make_stores.Goals as goal

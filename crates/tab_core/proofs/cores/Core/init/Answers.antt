@@ -1,4 +1,4 @@
-use Rattle.std.proofs.Common.{rules, ◌≡◌, ◌≤◌, ℕ, ◌+◌, List, length, vec_len, sym, ◌∙◌, ap, arith, subst, All}
+use Rattle.std.proofs.Common.{rules, ◌≡◌, ◌≤◌, ◌+◌, List, length, vec_len, sym, ◌∙◌, ap, arith, subst, All}
 use Rattle.std.specs.Prelude.{Err}
 use Rattle.std.specs.List.{AllZip}
 use Rattle.tab_outside.specs.Disks.{Rests}
