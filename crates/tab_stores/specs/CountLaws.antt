@@ -1,14 +1,12 @@
 -- A counter's frames: a step's frame goes on from those before it, and a checkpoint's frame tells the count.
-use Rattle.std.proofs.Common.{◌≡◌, ℕ, ◌+◌, ◌<◌, ◌≤◌, ◌^◌, true, List, [], ◌∷◌, ◌++◌, length, refl, sym, subst, arith}
+use Rattle.std.proofs.Common.{◌≡◌, ℕ, ◌<◌, ◌^◌, true, List, [], ◌∷◌, ◌++◌, refl, sym, subst, arith}
 use Rattle.tab_keys.proofs.KeyTexts.{IsKeyText-nil}
 use Rattle.tab_codec.specs.declared.frames.Frame.{Frame}
-use Rattle.tab_codec.specs.declared.frames.Frame.TheVariants as frames
-use Rattle.tab_codec.specs.Frames.{HasSpelling, IsShort}
+use Rattle.tab_codec.specs.Frames.{IsShort}
 use Rattle.tab_codec.specs.Spelling.{body, span_spelling, bound_spelling, sized}
 use Rattle.tab_journal.specs.Areas.{AreFrames}
-use Rattle.tab_journal.specs.Fitting.{Fits, told_first, takes, takes_all, after, after_all, is_whole_store}
+use Rattle.tab_journal.specs.Fitting.{told_first, takes, takes_all, after, after_all, is_whole_store}
 use Rattle.tab_journal.specs.Told.{server_takes, server_after}
-use Rattle.tab_journal.specs.declared.fitting.Told.{Told}
 use Rattle.tab_journal.specs.declared.fitting.Told.TheVariants as told
 use Rattle.tab_journal.specs.declared.ranges.RangeTold.{RangeTold}
 use Rattle.tab_journal.specs.Keeping.{GoesOn, ChecksOut}

@@ -2,6 +2,7 @@
 //! and prints a line a file, or the first answer that differs from the written one.
 #![tactic(auto)]
 
+mod commands;
 mod counters;
 mod disks;
 mod frames;
@@ -10,10 +11,15 @@ mod map_calls;
 mod mapping;
 mod name_calls;
 mod naming;
+mod replies;
 mod runs;
+mod server_calls;
 mod services;
+mod serving;
+mod spans;
 mod steps;
 mod stops;
+mod tallying;
 mod texts;
 mod walks;
 mod yards;
@@ -24,7 +30,7 @@ use stops::Stop;
 use walks::Walk;
 
 /// The files, in the order in which they are run.
-const FILES: [&str; 8] = [
+const FILES: [&str; 9] = [
     "makings",
     "appends",
     "compactions",
@@ -33,6 +39,7 @@ const FILES: [&str; 8] = [
     "yards",
     "names",
     "maps",
+    "servers",
 ];
 
 /// The status where an answer differs from the written one.

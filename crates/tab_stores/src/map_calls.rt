@@ -112,7 +112,14 @@ fn call_map(
         "rows" => add_rows(alloc, came, mapping.rows()),
         "settle" => settle(alloc, mapping, came),
         "checkpoint" => checkpoint(alloc, mapping, came),
-        "failed" => add(came, if mapping.failed() { "failed" } else { "running" }),
+        "failed" => add(
+            came,
+            if mapping.failed() {
+                "failed"
+            } else {
+                "running"
+            },
+        ),
         "fail" => arm(mapping, given, false),
         "stop" => arm(mapping, given, true),
         _ => Err(UNKNOWN),

@@ -3,6 +3,7 @@
 use crate::keeping::keep;
 use crate::map_calls::chart;
 use crate::name_calls::name;
+use crate::server_calls::hold;
 use crate::services::serve;
 use crate::steps::step;
 use crate::stops::Stop;
@@ -41,12 +42,13 @@ fn picked(alloc: Global, calls: &str, pick: u64) -> Result<String, Stop> {
 }
 
 /// Goes through the calls of a line, which stand between bars. Behind `yard` stand those on the disks of a whole service,
-/// behind `names` those on the names of tables, and behind `maps` those on a map of ranges.
+/// behind `names` those on the names of tables, behind `maps` those on a map of ranges, and behind `servers` those on a range server.
 fn run(alloc: Global, line: &str, pick: u64, came: &mut String) -> Result<(), Stop> {
     match split_word(line) {
         ("yard", calls) => serve(alloc, calls, pick, came),
         ("names", calls) => name(alloc, calls, pick, came),
         ("maps", calls) => chart(alloc, calls, pick, came),
+        ("servers", calls) => hold(alloc, calls, pick, came),
         _ => run_store(alloc, line, pick, came),
     }
 }

@@ -1,4 +1,4 @@
-use Rattle.std.proofs.Common.{◌≤◌, ◌<◌, length, sym, arith}
+use Rattle.std.proofs.Common.{◌≤◌, ◌<◌, length, arith}
 use Rattle.std.proofs.lemmas.List.{drop_all}
 use Rattle.tab_stores.proofs.Counts.{count_next, count_end}
 use Rattle.tab_stores.proofs.frames.count_of.Goals as goal
