@@ -1,5 +1,5 @@
 -- What the calls on a map with its store answer and leave.
-use Rattle.std.specs.Prelude.{◌≡◌, ℕ, ◌+◌, ◌-◌, ◌^◌, ◌⊎◌, length, Bool, false, true, None, Result, Ok, Err, OnOk}
+use Rattle.std.specs.Prelude.{◌≡◌, ℕ, ◌+◌, ◌-◌, ◌^◌, ◌⊎◌, [], length, Bool, false, true, None, Result, Ok, Err, OnOk}
 use Rattle.tab_outside.specs.Disks.{Watch}
 use Rattle.tab_outside.specs.Pairs.{AddsNone, Since}
 use Rattle.tab_journal.specs.Areas.{Spells, opened, first_gate}
@@ -46,6 +46,9 @@ pub record IsOpened {D : Type 0} (servers : ℕ) (map : MapKept D) : Type 0 wher
   pub running : map.failed ≡ false
   pub clear : map.doubt ≡ None
   pub servers_are : map.held.servers ≡ servers
+  pub next_range : map.held.next_range ≡ map.held.told.next_range
+  pub next_plan : map.held.next_plan ≡ map.held.told.next_plan
+  pub plans : map.held.plans ≡ []
   pub is : IsMapOver servers map.held.told
 
 -- the areas spell frames, but these no map over so many servers, and the place is where they end

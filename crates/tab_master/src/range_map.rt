@@ -10,7 +10,7 @@ ghost use Rattle.tab_journal.specs.Making.{IsRefusedFor};
 ghost use Rattle.tab_journal.specs.Keeping.{IsSound, IsClear};
 ghost use Rattle.tab_history.specs.Configurations.{row_with};
 ghost use Rattle.tab_master.specs.Spelled.{map_kind, map_row};
-ghost use Rattle.tab_master.specs.Maps.{map_sense};
+ghost use Rattle.tab_master.specs.Maps.{map_sense, IsMapOver};
 ghost use Rattle.tab_master.specs.RangeMaps.{map_refused, IsOpened, OpensMap, ReadsAnew, SettlesMap, RewritesMap, ChecksMap};
 
 use crate::MapContent;
@@ -80,12 +80,13 @@ impl<D: Disk> RangeMap<D> {
 
     /// All rows, in the order of their keys; they tile the space of keys. This takes no memory.
     pub fn rows(&self) -> &[RangeRow]
-        ensures { map map_row result.now ≡ self.now.held.told.rows }
+        ensures rows { map map_row result.now ≡ self.now.held.told.rows }
+        ensures is { IsMapOver self.now.held.servers self.now.held.told }
     {
         self.kept.held().rows()
     }
 
-    /// Reads the store anew where it has failed, and does nothing else.
+    /// Reads the store anew where it has failed, and does the commit in doubt where it stands.
     pub fn settle(&mut self, alloc: Global) -> Result<(), MapRefused>
         requires sound { D.honest → IsSound D.watch map_sense self.old }
         ensures settles { SettlesMap D.honest D.watch D.faults D.has_stops self.old self.new result }

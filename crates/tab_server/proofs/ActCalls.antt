@@ -286,7 +286,7 @@ module _ {D T : Type 0} (drawn : T → Stroke Told → T → Type 0) (ready : T 
         tick = ap (λ (o : Outcome). o.tick) asked.due
 
         is_asked : IsChangeOf marked command now changes.tick step
-        is_asked = record { range = sym number; told = refl; moment = refl; changes = refl; due = tick }
+        is_asked = record { range = sym number; told = refl; moment = refl; changes = refl; due = asked.due; of = asked.of }
 
         held : mid.held ≡ at_number marked.range.id (with_spare still.0) old.held
         held = ap (λ (k : ServerView D T). k.held) still.1 ∙ ap (λ n. at_number n (with_spare still.0) old.held) (sym number)

@@ -1,6 +1,6 @@
 -- What a settling leaves of a server, from what it leaves of what is kept.
-use Rattle.std.proofs.Common.{◌≡◌, ℕ, Bool, true, false, None, Ok, Err, refl, sym, subst, ap, arith}
-use Rattle.std.specs.Prelude.{Result, ⊤, OnOk}
+use Rattle.std.proofs.Common.{◌≡◌, ℕ, Bool, true, false, None, Ok, Err, refl, sym, subst, ap, arith, ◌+◌, ◌-◌, ◌^◌, inl, inr}
+use Rattle.std.specs.Prelude.{Result, ⊤, ◌⊎◌, OnOk}
 use Rattle.tab_outside.specs.Disks.{Watch}
 use Rattle.tab_outside.specs.Pairs.{AddsNone, Since}
 use Rattle.tab_journal.specs.Areas.{Spells}
@@ -104,6 +104,10 @@ damaged_in (kept.Damaged area at) h = h
 damaged_in kept.EpochSpent h = tt
 damaged_in kept.Memory h = tt
 
+-- the last epoch is answered by its refusal, or by want of memory
+abbrev pub IsSpent : {D T : Type 0} → ServerView D T → Result ⊤ KeptRefused → Type 0
+IsSpent mid answer = mid.store.epoch ≡ 2 ^ 64 - 1 → (answer ≡ Err kept.EpochSpent) ⊎ (answer ≡ Err kept.Memory)
+
 module _ {D T : Type 0} (drawn : T → Stroke Told → T → Type 0) (ready : T → ℕ → Type 0) (kin : T → T → Type 0) (w : Watch D) (honest : Type 0) (faults : D → ℕ) where
   -- one that had failed
   pub settles_so : (old new : ServerView D T) (answer : Result Bool KeptRefused) (result : Result ⊤ ActRefused) → IsPassedOn answer result → old.failed ≡ true → AfterSettling (ranges_sense drawn ready kin) old new answer → IsSameStore old.store new.store
@@ -121,21 +125,29 @@ module _ {D T : Type 0} (drawn : T → Stroke Told → T → Type 0) (ready : T 
   Images mid new =
       honest → Since w (Spells mid.store.kind mid.store.number) (StandsFor (ranges_sense drawn ready kin) mid.held) (w.moment (area_a mid.store)) (w.moment (area_b mid.store)) (area_a new.store) (area_b new.store)
 
-  rewrites_err : (mid new : ServerView D T) (k : KeptRefused) → AfterCheckpoint {T = ⊤} mid new (Err k) → Images mid new → KeptCauses {T = ⊤} faults mid new (Err k)
+  ok_unspent : (x : ⊤) → ◌≡◌ {A = Result ⊤ KeptRefused} (Ok x) (Err kept.EpochSpent) ⊎ ◌≡◌ {A = Result ⊤ KeptRefused} (Ok x) (Err kept.Memory) → ⊥
+  ok_unspent x (inl e) = cc
+  ok_unspent x (inr e) = cc
+
+  fault_unspent : (area : ℕ) → ◌≡◌ {A = Result ⊤ KeptRefused} (Err (kept.DiskFault area)) (Err kept.EpochSpent) ⊎ ◌≡◌ {A = Result ⊤ KeptRefused} (Err (kept.DiskFault area)) (Err kept.Memory) → ⊥
+  fault_unspent area (inl e) = cc
+  fault_unspent area (inr e) = cc
+
+  rewrites_err : (mid new : ServerView D T) (k : KeptRefused) → AfterCheckpoint {T = ⊤} mid new (Err k) → IsSpent mid (Err k) → Images mid new → KeptCauses {T = ⊤} faults mid new (Err k)
       → RewritesAfter drawn ready kin w honest faults mid new (Ok tt) (Err (act_refused k))
-  rewrites_err mid new (kept.DiskFault area) after images causes =
-      (after, images, record { later_a = causes.later_a; later_b = causes.later_b; fault = λ a e. causes.fault a (ap (λ x. Err (kept.DiskFault x)) cc) })
-  rewrites_err mid new (kept.Damaged area place) after images causes = absurd after
-  rewrites_err mid new kept.EpochSpent after images causes = (after, images, record { later_a = causes.later_a; later_b = causes.later_b; fault = λ a e. absurd cc })
-  rewrites_err mid new kept.Memory after images causes = (after, images, record { later_a = causes.later_a; later_b = causes.later_b; fault = λ a e. absurd cc })
+  rewrites_err mid new (kept.DiskFault area) after spent images causes =
+      ((after.0, after.1, after.2, λ e. fault_unspent area (spent e)), images, record { later_a = causes.later_a; later_b = causes.later_b; fault = λ a e. causes.fault a (ap (λ x. Err (kept.DiskFault x)) cc) })
+  rewrites_err mid new (kept.Damaged area place) after spent images causes = absurd after
+  rewrites_err mid new kept.EpochSpent after spent images causes = (after, images, record { later_a = causes.later_a; later_b = causes.later_b; fault = λ a e. absurd cc })
+  rewrites_err mid new kept.Memory after spent images causes = (after, images, record { later_a = causes.later_a; later_b = causes.later_b; fault = λ a e. absurd cc })
 
   pub rewrites_so : (mid new : ServerView D T) (answer : Result ⊤ KeptRefused) (result : Result ⊤ ActRefused) → IsPassedOn answer result → AfterCheckpoint mid new answer
-      → (honest → OnOk answer (IsRewritten w (ranges_sense drawn ready kin) new)) → Images mid new → KeptCauses faults mid new answer → RewritesAfter drawn ready kin w honest faults mid new (Ok tt) result
-  rewrites_so mid new (Ok x) result passed after rewritten images causes =
+      → OnOk answer (new.store.epoch ≡ mid.store.epoch + 1) → IsSpent mid answer → (honest → OnOk answer (IsRewritten w (ranges_sense drawn ready kin) new)) → Images mid new → KeptCauses faults mid new answer → RewritesAfter drawn ready kin w honest faults mid new (Ok tt) result
+  rewrites_so mid new (Ok x) result passed after epoch spent rewritten images causes =
       subst (RewritesAfter drawn ready kin w honest faults mid new (Ok tt)) (sym passed)
-      ((after.0, after.1, after.2, rewritten), images, record { later_a = causes.later_a; later_b = causes.later_b; fault = λ a e. absurd cc })
-  rewrites_so mid new (Err k) result passed after rewritten images causes =
-      subst (RewritesAfter drawn ready kin w honest faults mid new (Ok tt)) (sym passed) (rewrites_err mid new k after images causes)
+      ((after.0, after.1, after.2, rewritten, epoch, λ e. ok_unspent x (spent e)), images, record { later_a = causes.later_a; later_b = causes.later_b; fault = λ a e. absurd cc })
+  rewrites_so mid new (Err k) result passed after epoch spent rewritten images causes =
+      subst (RewritesAfter drawn ready kin w honest faults mid new (Ok tt)) (sym passed) (rewrites_err mid new k after spent images causes)
 
   -- what is not settled is not rewritten
   pub checks_refused : (old mid : ServerView D T) (settled result : Result ⊤ ActRefused) (why : ActRefused) → Settles drawn ready kin w honest faults old mid settled → settled ≡ Err why → result ≡ Err why

@@ -1,5 +1,5 @@
 -- What calls on a server leave, by their answers.
-use Rattle.std.specs.Prelude.{◌≡◌, ℕ, ◌-◌, ◌^◌, ◌⊎◌, List, Bool, true, false, Option, Some, None, Result, Ok, Err, ⊤, IsTrue}
+use Rattle.std.specs.Prelude.{◌≡◌, ◌≢◌, ◌+◌, ℕ, ◌-◌, ◌^◌, ◌⊎◌, List, Bool, true, false, Option, Some, None, Result, Ok, Err, ⊤, IsTrue}
 use Rattle.tab_outside.specs.Disks.{Watch}
 use Rattle.tab_outside.specs.Pairs.{Extends, AddsNone, Since}
 use Rattle.tab_seats.specs.declared.views.Stroke.{Stroke}
@@ -8,6 +8,9 @@ use Rattle.tab_history.specs.declared.entries.Denied.TheVariants as denied
 use Rattle.tab_range.specs.declared.commands.Command.{Command}
 use Rattle.tab_range.specs.declared.commands.Told.{Told}
 use Rattle.tab_range.specs.Commands.{command_key}
+use Rattle.tab_range.specs.declared.commands.Answer.TheVariants as answer
+use Rattle.tab_range.specs.Outcomes.{accepted, AreOf}
+use Rattle.tab_ops.specs.Changes.{applied}
 use Rattle.tab_range.specs.Ranges.{DrewOne, range_outcome}
 use Rattle.tab_journal.specs.Areas.{Spells}
 use Rattle.tab_journal.specs.Stores.{area_a, area_b, IsSameStore}
@@ -20,13 +23,14 @@ use Rattle.tab_server.specs.Contents.{ranges_sense}
 use Rattle.tab_server.specs.Serving.{ServerView, range_for, at_number, with_spare, with_tally, is_sealed, is_in_doubt}
 use Rattle.tab_server.specs.ServerCauses.{ServerCauses, IsDamagedIn}
 
--- a change of this range, of this tick, that the command asked for at this moment
+-- a change of this range, of this tick, that is just what the command comes to at this moment
 pub record IsChangeOf {T : Type 0} (marked : Marked T) (command : Command) (now tick : ℕ) (step : RangeChange) : Type 0 where
   pub range : step.range ≡ marked.range.id
   pub told : step.told ≡ record { command = command; tick = Some tick }
   pub moment : step.moment ≡ now
   pub changes : step.changes.tick ≡ tick
-  pub due : (range_outcome marked.range command now).tick ≡ Some tick
+  pub due : range_outcome marked.range command now ≡ accepted tick (applied marked.range.rows step.changes.list)
+  pub of : AreOf command (answer.Change step.changes)
 
 module _ {T : Type 0} (is_drawn : T → Stroke Told → T → Type 0) (is_ready : T → ℕ → Type 0) (are_kin : T → T → Type 0) where
   abbrev sense : Sense (List (Marked T)) RangeChange
@@ -150,11 +154,12 @@ module _ {T : Type 0} (is_drawn : T → Stroke Told → T → Type 0) (is_ready 
 
     -- ---- a checkpoint
 
-    -- what is held is held still; the store was rewritten, or a disk failed, or the last epoch is reached or no memory was
-    -- found and all is as before
+    -- what is held is held still; the store was rewritten, with the next epoch, or a disk failed; or no memory was found, or the last epoch
+    -- is reached, and all is as before
     abbrev pub Rewrites : Watch D → Type 0 → ServerView D T → ServerView D T → Result ⊤ ActRefused → Type 0
-    Rewrites w honest old new (Ok x) = (new.held ≡ old.held) × (new.doubt ≡ None) × (new.failed ≡ false) × (honest → IsRewritten w sense new)
-    Rewrites w honest old new (Err (refused.DiskFault area)) = (new.held ≡ old.held) × (new.doubt ≡ old.doubt) × (new.failed ≡ true)
+    Rewrites w honest old new (Ok x) =
+        (new.held ≡ old.held) × (new.doubt ≡ None) × (new.failed ≡ false) × (honest → IsRewritten w sense new) × (new.store.epoch ≡ old.store.epoch + 1) × (old.store.epoch ≢ 2 ^ 64 - 1)
+    Rewrites w honest old new (Err (refused.DiskFault area)) = (new.held ≡ old.held) × (new.doubt ≡ old.doubt) × (new.failed ≡ true) × (old.store.epoch ≢ 2 ^ 64 - 1)
     Rewrites w honest old new (Err refused.EpochSpent) = (new ≡ old) × (old.store.epoch ≡ 2 ^ 64 - 1)
     Rewrites w honest old new (Err refused.Memory) = new ≡ old
     Rewrites w honest old new (Err _) = ⊥

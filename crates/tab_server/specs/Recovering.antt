@@ -81,3 +81,9 @@ pub record Recovers {D T : Type 0} (w : Watch D) (listed : List (ℕ × Interval
   pub held : IsRecovered frames listed server.held
   pub images_a : AddsNone w a (area_a server.store)
   pub images_b : AddsNone w b (area_b server.store)
+
+-- the two areas spell the frames that the ranges are recovered from
+pub record IsReadFrom {D T : Type 0} (listed : List (ℕ × Interval)) (read : Result Found (ℕ × ℕ)) (server : ServerView D T) : Type 0 where
+  pub found : Found
+  pub is : read ≡ Ok found
+  pub held : IsRecovered found.frames listed server.held

@@ -6,9 +6,9 @@ ghost use Rattle.tab_server.specs.Serving.{takes_commands, is_serving, is_sealed
 /// What a range that a server holds is for.
 #[derive(Clone, Copy, Debug)]
 pub enum Mark {
-    /// It takes commands.
+    /// It answers commands.
     Serving,
-    /// It takes none, since it moves to other ranges.
+    /// Commands for it are refused, since it moves to other ranges.
     Sealed,
     /// It is copied from other ranges.
     Copy {

@@ -1,7 +1,8 @@
 //! Opening a server on its disks.
 
-ghost use Rattle.std.specs.Prelude.{◌≡◌, ◌≤◌, ℕ, None, Some, false, IfOk, IfErr, MatchOption};
+ghost use Rattle.std.specs.Prelude.{◌≡◌, ◌≤◌, ℕ, List, None, Some, false, IfOk, IfErr, MatchOption};
 ghost use Rattle.tab_outside.specs.Pairs.{AddsNone};
+ghost use Rattle.tab_codec.specs.declared.frames.Frame.{Frame};
 ghost use Rattle.tab_journal.specs.Areas.{AreFrames};
 ghost use Rattle.tab_journal.specs.Making.{IsRefusedFor};
 ghost use Rattle.tab_journal.specs.Reading.{read_areas};
@@ -9,7 +10,7 @@ ghost use Rattle.tab_journal.specs.Stores.{area_a, area_b, IsInArea};
 ghost use Rattle.tab_journal.specs.Keeping.{IsSound};
 ghost use Rattle.tab_journal.specs.declared.refusals.StoreRefused.TheVariants.{NotAStore};
 ghost use Rattle.tab_server.specs.Contents.{ranges_sense};
-ghost use Rattle.tab_server.specs.Recovering.{IsRecovered, IsSpelledOver, LacksListed, IsNoServer, IsReadOver, Recovers};
+ghost use Rattle.tab_server.specs.Recovering.{IsRecovered, IsSpelledOver, LacksListed, IsNoServer, IsReadFrom, IsReadOver, Recovers};
 
 use crate::comparing::same_span;
 use crate::replays::replayed;
@@ -36,6 +37,8 @@ impl<D: Disk, T: Backing> Server<D, T> {
     ) -> Result<Server<D, T>, Back<D>>
         ensures sound { D.honest → IfOk result (λ server. IsSound D.watch (ranges_sense T.drew T.ready T.kin) server) }
         ensures recovers { D.honest → IfOk result (λ server. Recovers D.watch held.now a b server) }
+        ensures read { D.honest → IfOk result (λ server. IsReadFrom held.now (read_areas 2 number (D.watch.seen a) (D.watch.seen b)) server) }
+        ensures holds { IfOk result (λ server. (frames : List Frame) × AreFrames 2 frames × IsRecovered frames held.now server.held) }
         ensures is { IfOk result (λ server. (server.store.number ≡ number) × (server.doubt ≡ None) × (server.failed ≡ false)) }
         ensures exact { D.honest → IfErr result (λ back. (area at : ℕ) → back.refused ≡ NotAStore area at
             → IsNoServer held.now (read_areas 2 number (D.watch.seen a) (D.watch.seen b)) area at) }

@@ -11,7 +11,7 @@ use tab_ops::OpRefused;
 /// Why a call on a server was refused.
 #[derive(Debug, Drop)]
 pub enum ActRefused {
-    /// No range that takes commands has the key.
+    /// No range that serves or is sealed, and has a tally, has the key.
     NotHeld,
     /// The range that has the key is sealed.
     Sealed { range: u64 },

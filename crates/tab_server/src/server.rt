@@ -10,8 +10,8 @@ ghost use Rattle.tab_range.specs.Commands.{command_key};
 ghost use Rattle.tab_range.specs.Outcomes.{accepted, AreOf};
 ghost use Rattle.tab_range.specs.Ranges.{range_outcome};
 ghost use Rattle.tab_server.specs.declared.ranges.Marked.{Marked};
-ghost use Rattle.tab_server.specs.Contents.{ranges_sense};
-ghost use Rattle.tab_server.specs.Serving.{range_of, range_for, is_past, is_marked, is_serving, is_sealed, is_copied, at_number, with_mark, with_tally, without_range, lacks_tally, is_in_doubt, doubt_without, tally_out, IsServed};
+ghost use Rattle.tab_server.specs.Contents.{IsHolding, ranges_sense};
+ghost use Rattle.tab_server.specs.Serving.{range_of, range_for, is_past, is_marked, is_serving, is_sealed, is_copied, at_number, with_mark, with_tally, without_range, lacks_tally, is_in_doubt, doubt_without, tally_out, IsServed, IsServer};
 ghost use Rattle.tab_server.specs.Acting.{Settles, Acts, AnswersAfter, IsTold, IsReadyToAct, IsStill, ChecksPoint, RewritesAfter};
 
 use crate::refusals::{act_refused, denied_as, is_memory};
@@ -54,6 +54,15 @@ impl<D: Disk, T: Backing> Server<D, T> {
         ensures { result ≡ kept }
     {
         Server { kept }
+    }
+
+    /// What a server keeps at each moment: its ranges stand by rising number, a copy has no tally, and a change in doubt may be done. It does
+    /// nothing.
+    pub fn keeps(&self)
+        ensures holding { IsHolding self.now.held }
+        ensures is { IsServer T.drew T.ready T.kin self.now }
+    {
+        self.kept.held().keeps();
     }
 
     /// Reads the store anew where it has failed, and does the change in doubt where it stands.
@@ -154,7 +163,7 @@ impl<D: Disk, T: Backing> Server<D, T> {
         self.kept.held_mut().take_tally(range)
     }
 
-    /// Seals a range that is serving: it takes no commands any more. False where there is no such range. It takes no memory.
+    /// Seals a range that is serving: commands for it are refused. False where there is no such range. It takes no memory.
     pub fn seal(&mut self, range: u64) -> bool
         requires sound { D.honest → IsSound D.watch (ranges_sense T.drew T.ready T.kin) self.old }
         ensures sound { D.honest → IsSound D.watch (ranges_sense T.drew T.ready T.kin) self.new }
