@@ -15,3 +15,5 @@ pub mod Reopening
 pub mod Images
 pub mod Remembering
 pub mod Stores
+pub mod Keeping
+pub mod ServerSteps

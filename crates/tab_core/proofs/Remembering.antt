@@ -1,5 +1,5 @@
 -- What the frames of a store spell, where they mean what a service holds for a course.
-use Rattle.std.proofs.Common.{◌≡◌, ℕ, zero, suc, ◌+◌, List, [], ◌∷◌, Bool, true, false, Option, Some, None, refl, ap, subst, ◌∙◌, inl, inr}
+use Rattle.std.proofs.Common.{◌≡◌, ℕ, zero, suc, ◌+◌, ◌<◌, get_or, length, List, [], ◌∷◌, Bool, true, false, Option, Some, None, refl, ap, subst, ◌∙◌, inl, inr}
 use Rattle.std.specs.Prelude.{◌==◌, slice_get, option_map, Any, All, IfSome, IsSomeAnd, if◌then◌else◌}
 use Rattle.std.specs.List.{AllByRecursion}
 use Rattle.std.proofs.lemmas.Option.{slice_get-map}
@@ -15,13 +15,13 @@ use Rattle.tab_server.specs.Replays.{SpelledRange, with_changes, spelled_range, 
 use Rattle.tab_server.specs.Contents.{told_of, told_ranges, told_with, with_change, ranges_sense}
 use Rattle.tab_server.specs.Serving.{ServerView, range_of}
 use Rattle.tab_server.proofs.ActLaws.{placed}
-use Rattle.tab_master.specs.Spelled.{spelled_map, spelled_names}
+use Rattle.tab_master.specs.Spelled.{SpelledNames, spelled_map, spelled_names}
 use Rattle.tab_master.specs.Names.{NamesView, names_sense, names_stepped}
 use Rattle.tab_master.specs.Maps.{MapView, MapCommit, map_sense, map_stepped}
 use Rattle.tab_master.specs.declared.steps.NamesStep.{NamesStep}
 use Rattle.tab_core.specs.Courses.{Course, committed_by}
 use Rattle.tab_core.specs.Points.{SpellsMap, MapPoint, SpellsNames, NamesPoint, held_in, SpellsRange, RangePoint, RangesPoint, ServerPoint}
-use Rattle.tab_core.specs.Cores.{told_map, told_names, HoldsRow, MakesRow, HoldsRanges, KeepsServer}
+use Rattle.tab_core.specs.Cores.{told_map, told_names, NamesBy, HoldsRow, ChangesBy, HoldsRanges, KeepsServer}
 
 -- ---- some and each
 
@@ -64,23 +64,23 @@ map_point course held (Some step) frames told in_doubt (inr stands) = map_steppi
 
 -- ---- the names
 
-names_stepping : (course : Course) (held : NamesView) (step : NamesStep) (frames : List Frame) → Any (λ it. names_stepped held.told step ≡ told_names (acted course.past.world it.1)) course.past.doubts
+names_stepping : (course : Course) (held : NamesView) (step : NamesStep) (frames : List Frame) → held.told ≡ told_names course.past.world → Any (λ it. NamesBy course.past.world step it.1) course.past.doubts
     → spelled_names frames ≡ Some (names_stepped held.told step) → NamesPoint course frames
-names_stepping course held step frames made spelled =
-    inr (any_so (λ it. names_stepped held.told step ≡ told_names (acted course.past.world it.1)) (λ it. SpellsNames (acted course.past.world it.1) frames) course.past.doubts
-    (λ it is. spelled ∙ ap Some is) made)
+names_stepping course held step frames told made spelled =
+    inr (any_so (λ it. NamesBy course.past.world step it.1) (λ it. SpellsNames (acted course.past.world it.1) frames) course.past.doubts
+    (λ it by. spelled ∙ ap Some (ap (λ (names : SpelledNames). names_stepped names step) told ∙ by.makes)) made)
 
 -- and so those that mean its names
 pub names_point : (course : Course) (held : NamesView) (doubt : Option NamesStep) (frames : List Frame) → held.told ≡ told_names course.past.world
-    → IfSome doubt (λ step. Any (λ it. names_stepped held.told step ≡ told_names (acted course.past.world it.1)) course.past.doubts)
+    → IfSome doubt (λ step. Any (λ it. NamesBy course.past.world step it.1) course.past.doubts)
     → Means names_sense held doubt frames → NamesPoint course frames
 names_point course held doubt frames told in_doubt (inl stands) = inl (stands.spelled ∙ ap Some told)
 names_point course held None frames told in_doubt (inr none) = absurd none
-names_point course held (Some step) frames told in_doubt (inr stands) = names_stepping course held step frames in_doubt stands.spelled
+names_point course held (Some step) frames told in_doubt (inr stands) = names_stepping course held step frames told in_doubt stands.spelled
 
 -- ---- one range of a server
 
-same_number : (step : RangeChange) (one : SpelledRange) → (told_with (Some step) one).range ≡ one.range
+pub same_number : (step : RangeChange) (one : SpelledRange) → (told_with (Some step) one).range ≡ one.range
 same_number step one = by_test (step.range == one.range)
   where
     by_test : (b : Bool) → (if b then with_changes step.changes.list (step.changes.tick + 1) one else one).range ≡ one.range
@@ -119,23 +119,25 @@ row_changed past config held row step frames stand None found is = absurd is
 row_changed past config held row step frames stand (Some marked) found is =
     spelled_changed held row.range marked step frames stand found ∙ ap (λ (one : SpelledRange). Some (told_with (Some step) one)) is
 
--- and as an operation in doubt makes it
-row_stepping : (past : State) (config : Configuration) (row : MapRow) (step : RangeChange) (frames : List Frame) → spelled_range frames row.range ≡ Some (told_with (Some step) (held_in past.world config row))
-    → Any (MakesRow past config step row) past.doubts → RangePoint past config row frames
-row_stepping past config row step frames spelled made =
-    inr (any_so (MakesRow past config step row) (λ it. SpellsRange (acted past.world it.1) (ticked config (Some it.1)) row frames) past.doubts (λ it is. spelled ∙ ap Some is) made)
+-- and as the operation in doubt makes it
+row_stepping : (past : State) (config : Configuration) (number : ℕ) (step : RangeChange) (frames : List Frame) (i : ℕ) (d : MapRow) → i < length config.rows → (get_or config.rows i d).server ≡ number
+    → spelled_range frames (get_or config.rows i d).range ≡ Some (told_with (Some step) (held_in past.world config (get_or config.rows i d)))
+    → Any (λ it. ChangesBy past config number step it.1) past.doubts → RangePoint past config (get_or config.rows i d) frames
+row_stepping past config number step frames i d inside here spelled made =
+    inr (any_so (λ it. ChangesBy past config number step it.1) (λ it. SpellsRange (acted past.world it.1) (ticked config (Some it.1)) (get_or config.rows i d) frames) past.doubts
+    (λ it by. spelled ∙ ap Some (by.makes i d inside here)) made)
 
 -- ---- the ranges of a server
 
 ranges_point : {T : Type 0} (drawn : T → Stroke Told → T → Type 0) (ready : T → ℕ → Type 0) (kin : T → T → Type 0) (past : State) (config : Configuration) (number : ℕ)
     (held : List (Marked T)) (doubt : Option RangeChange) (frames : List Frame) → All (λ row. row.server ≡ number → HoldsRow past config held row) config.rows
-    → IfSome doubt (λ step. All (λ row. row.server ≡ number → Any (MakesRow past config step row) past.doubts) config.rows)
+    → IfSome doubt (λ step. Any (λ it. ChangesBy past config number step it.1) past.doubts)
     → Means (ranges_sense drawn ready kin) held doubt frames → RangesPoint past config number frames
 ranges_point drawn ready kin past config number held doubt frames holds in_doubt (inl stands) i d inside here =
     inl (row_still past config held _ frames stands _ refl (holds i d inside here))
 ranges_point drawn ready kin past config number held None frames holds in_doubt (inr none) i d inside here = absurd none
 ranges_point drawn ready kin past config number held (Some step) frames holds in_doubt (inr stands) i d inside here =
-    row_stepping past config _ step frames (row_changed past config held _ step frames stands _ refl (holds i d inside here)) (in_doubt i d inside here)
+    row_stepping past config number step frames i d inside here (row_changed past config held _ step frames stands _ refl (holds i d inside here)) in_doubt
 
 -- frames that mean what a server holds for a course meet the server's point
 pub server_point : {D T : Type 0} (drawn : T → Stroke Told → T → Type 0) (ready : T → ℕ → Type 0) (kin : T → T → Type 0) (course : Course) (number : ℕ) (server : ServerView D T) (frames : List Frame)

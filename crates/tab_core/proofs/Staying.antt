@@ -209,7 +209,7 @@ serves_stopped servers floors doubts config h =
 -- ---- the doubt of a request
 
 -- it is apart from those that are left, in what every two of them are
-found_differs : (R : Doubt → Doubt → Type 0) → ((a b : Doubt) → R a b → R b a) → (doubts : List (ℕ × Doubt)) (ask : ℕ) → AllPairs (λ (a b : ℕ × Doubt). R a.1 b.1) doubts
+pub found_differs : (R : Doubt → Doubt → Type 0) → ((a b : Doubt) → R a b → R b a) → (doubts : List (ℕ × Doubt)) (ask : ℕ) → AllPairs (λ (a b : ℕ × Doubt). R a.1 b.1) doubts
     → IfSome (doubt_of doubts ask) (λ found. EachDoubt (λ other. R other found) (without_doubt doubts ask))
 unfolding doubt_of
 found_differs R symm [] ask h = tt

@@ -1,5 +1,5 @@
 -- How a course goes on by the entries of a history, and which entries suit it.
-use Rattle.std.specs.Prelude.{◌≡◌, ◌≢◌, ℕ, List, [], ◌∷◌, true, None, Ok, ⊤}
+use Rattle.std.specs.Prelude.{◌≡◌, ◌≢◌, ℕ, List, [], ◌∷◌, true, Some, None, Ok, ⊤}
 use Rattle.tab_history.specs.Legality.{after, Allows}
 use Rattle.tab_history.specs.Doubts.{doubt_of, EachDoubt}
 use Rattle.tab_history.specs.Configurations.{config_after, turned}
@@ -41,3 +41,8 @@ Suits servers course entry = Allows course.past entry × SuitsConfig servers cou
 abbrev pub EachSuits : ℕ → Course → List Entry → Type 0
 EachSuits servers course [] = ⊤
 EachSuits servers course (entry ∷ entries) = Suits servers course entry × EachSuits servers (after_entry course entry) entries
+
+-- behind an entry no doubt is open that this operation was in: it was in none, or the entry settles it
+abbrev pub EndsDoubt : Course → Doubt → Entry → Type 0
+EndsDoubt course operation (entry.Settled ask stood) = doubt_of course.past.doubts ask ≡ Some operation
+EndsDoubt course operation _ = IsAlone course operation

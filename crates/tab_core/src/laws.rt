@@ -1,14 +1,21 @@
 //! Laws of the courses of a store, which its calls rest on.
 
-ghost use Rattle.std.specs.Prelude.{◌≡◌, ℕ, [], None, List, IfSome};
+ghost use Rattle.std.specs.Prelude.{◌≡◌, ℕ, suc, [], None, Some, false, List, IfSome, length, slice_get};
 ghost use Rattle.tab_codec.specs.declared.frames.Frame.{Frame};
+ghost use Rattle.tab_history.specs.Legality.{accepted};
+ghost use Rattle.tab_history.specs.Doubts.{doubt_of};
 ghost use Rattle.tab_history.specs.declared.entries.Entry.{Entry};
-ghost use Rattle.tab_core.specs.Courses.{Course, IsCourse, MayCommit};
-ghost use Rattle.tab_core.specs.Steps.{after_entries, EachSuits};
+ghost use Rattle.tab_history.specs.declared.entries.Entry.TheVariants as entry;
+ghost use Rattle.tab_history.specs.declared.entries.Doubt.{Doubt};
+ghost use Rattle.tab_server.specs.declared.steps.RangeChange.{RangeChange};
+ghost use Rattle.tab_server.specs.Contents.{told_ranges, with_change};
+ghost use Rattle.tab_server.specs.Serving.{ServerView};
+ghost use Rattle.tab_core.specs.Courses.{Course, IsCourse, MayCommit, store_of};
+ghost use Rattle.tab_core.specs.Steps.{after_entry, after_entries, Suits, EachSuits, EndsDoubt};
 ghost use Rattle.tab_core.specs.Openings.{Reopens, MeetPoints, IsFound};
 ghost use Rattle.tab_core.specs.Points.{HoldStores};
 ghost use Rattle.tab_core.specs.Images.{StepImages, EachExtends};
-ghost use Rattle.tab_core.specs.Cores.{CoreView, KeepsCourse, AreSound, stores_in};
+ghost use Rattle.tab_core.specs.Cores.{CoreView, KeepsCourse, AreSound, stores_in, with_server, IsSettledServer, IsChangeBy};
 
 use tab_outside::Disk;
 use tab_range::Backing;
@@ -46,4 +53,21 @@ pub fn cores_hold_courses<D: Disk, T: Backing>()
 pub fn steps_have_images<D: Disk>()
     ensures { D.honest → (before after : Course) (stores stores_new : List (D × D)) → HoldStores D.watch before stores → EachExtends D.watch after stores stores_new
         → StepImages D.watch before after stores stores_new }
+{}
+
+/// A service goes on with a course by what one server does: a change that it made is that of an accepted operation; a change in doubt did not stand; and a
+/// change whose frame is in doubt is an operation in doubt.
+pub fn server_steps_keep_courses<D: Disk, T: Backing>()
+    ensures made { (course : Course) (core : CoreView D T) (number : ℕ) (old new : ServerView D T) (step : RangeChange) (operation : Doubt) (entry : Entry)
+        → KeepsCourse course core → course.past.commit ≡ None → slice_get core.servers number ≡ Some old → Suits (length core.servers) course entry
+        → accepted course.past.doubts entry ≡ Some operation → EndsDoubt course operation entry → IsChangeBy course number step operation
+        → IsSettledServer number (with_change (told_ranges old.held) step) new → KeepsCourse (after_entry course entry) (with_server core number new) }
+    ensures fell { (course : Course) (core : CoreView D T) (number ask : ℕ) (old new : ServerView D T) (operation : Doubt)
+        → KeepsCourse course core → course.past.commit ≡ None → slice_get core.servers number ≡ Some old → doubt_of course.past.doubts ask ≡ Some operation
+        → store_of course.config operation ≡ suc (suc number) → IsSettledServer number (told_ranges old.held) new
+        → KeepsCourse (after_entry course (entry.Settled ask false)) (with_server core number new) }
+    ensures doubted { (course : Course) (core : CoreView D T) (number ask now : ℕ) (old new : ServerView D T) (step : RangeChange) (operation : Doubt)
+        → KeepsCourse course core → course.past.commit ≡ None → slice_get core.servers number ≡ Some old → Suits (length core.servers) course (entry.Maybe ask now operation)
+        → IsChangeBy course number step operation → new.store.number ≡ number → told_ranges new.held ≡ told_ranges old.held → new.doubt ≡ Some step
+        → KeepsCourse (after_entry course (entry.Maybe ask now operation)) (with_server core number new) }
 {}

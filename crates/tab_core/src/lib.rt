@@ -7,5 +7,6 @@ mod making;
 
 pub use cores::{Core, InitRefused};
 pub use laws::{
-    cores_hold_courses, courses_are_reopened, courses_stay, openings_are_found, steps_have_images,
+    cores_hold_courses, courses_are_reopened, courses_stay, openings_are_found,
+    server_steps_keep_courses, steps_have_images,
 };
