@@ -5,6 +5,8 @@
 mod commands;
 mod counters;
 mod disks;
+mod forged_calls;
+mod forging;
 mod frames;
 mod keeping;
 mod map_calls;
@@ -30,7 +32,7 @@ use stops::Stop;
 use walks::Walk;
 
 /// The files, in the order in which they are run.
-const FILES: [&str; 9] = [
+const FILES: [&str; 10] = [
     "makings",
     "appends",
     "compactions",
@@ -40,6 +42,7 @@ const FILES: [&str; 9] = [
     "names",
     "maps",
     "servers",
+    "forged",
 ];
 
 /// The status where an answer differs from the written one.

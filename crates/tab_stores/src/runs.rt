@@ -1,5 +1,6 @@
 //! What a line of calls comes to.
 
+use crate::forged_calls::hold_forged;
 use crate::keeping::keep;
 use crate::map_calls::chart;
 use crate::name_calls::name;
@@ -42,13 +43,15 @@ fn picked(alloc: Global, calls: &str, pick: u64) -> Result<String, Stop> {
 }
 
 /// Goes through the calls of a line, which stand between bars. Behind `yard` stand those on the disks of a whole service,
-/// behind `names` those on the names of tables, behind `maps` those on a map of ranges, and behind `servers` those on a range server.
+/// behind `names` those on the names of tables, behind `maps` those on a map of ranges, behind `servers` those on a range server, and
+/// behind `forged` those on one whose disks forge what they hold.
 fn run(alloc: Global, line: &str, pick: u64, came: &mut String) -> Result<(), Stop> {
     match split_word(line) {
         ("yard", calls) => serve(alloc, calls, pick, came),
         ("names", calls) => name(alloc, calls, pick, came),
         ("maps", calls) => chart(alloc, calls, pick, came),
         ("servers", calls) => hold(alloc, calls, pick, came),
+        ("forged", calls) => hold_forged(alloc, calls, came),
         _ => run_store(alloc, line, pick, came),
     }
 }

@@ -60,21 +60,25 @@ fn called(
     Ok(Rack::Closed(disks))
 }
 
-fn server_number(text: &str) -> Result<u8, Stop> {
+pub fn server_number(text: &str) -> Result<u8, Stop> {
     let number = number(text)?;
     Ok(number.min(255) as u8)
 }
 
-/// Area 0 has the frames under epoch 1, and the gate of area 1 stands closed.
 fn made(alloc: Global, disks: Disks, given: &str, came: &mut String) -> Result<Rack, Stop> {
+    let mut disks = disks;
+    make(alloc, &mut disks, given, came)?;
+    Ok(Rack::Closed(disks))
+}
+
+/// Area 0 has the frames under epoch 1, and the gate of area 1 stands closed.
+pub fn make(alloc: Global, disks: &mut Disks, given: &str, came: &mut String) -> Result<(), Stop> {
     let (server, ranges) = split_word(given);
     let ranges = listed(alloc, ranges)?;
     let text = area_text(alloc, server_number(server)?, &ranges)?;
     let call = format!(in alloc; "put 0 {}", text.as_str())?;
-    let mut disks = disks;
     disks.call(alloc, call.as_str(), 0, came)?;
-    disks.call(alloc, "put 1 00", 0, came)?;
-    Ok(Rack::Closed(disks))
+    disks.call(alloc, "put 1 00", 0, came)
 }
 
 fn open(alloc: Global, disks: Disks, given: &str, came: &mut String) -> Result<Rack, Stop> {
@@ -150,7 +154,7 @@ fn turn(serving: &mut Serving, word: &str, range: u64, came: &mut String) -> Res
     add_is(came, is_done)
 }
 
-fn add_is(came: &mut String, is: bool) -> Result<(), Stop> {
+pub fn add_is(came: &mut String, is: bool) -> Result<(), Stop> {
     add(came, if is { "yes" } else { "no" })
 }
 
